@@ -1,0 +1,36 @@
+-- What decoding answers.
+use Prim.Native.Nat.{ℕ}
+use mathlib.Core.Bool.{cond}
+use mathlib.Core.List.{[], _∷_}
+use lib.Dec.{ltb}
+use Rattle.std.specs.declared.result.Result.{Result}
+use Rattle.std.specs.declared.result.Result.the-variants.{Ok, Err}
+use Rattle.std.specs.declared.option.Option.{Option}
+use Rattle.std.specs.declared.option.Option.the-variants.{Some, None}
+use Rattle.code.specs.Refusals.{Refusal, plain}
+use Rattle.code.specs.Characters.{after, decoded}
+use Rattle.code.specs.declared.character.Code.{Code}
+use Rattle.code.specs.declared.character.decoding.Decoded.{Decoded}
+use Rattle.code.specs.declared.character.decoding.DecodeRefusal.{DecodeRefusal}
+use Rattle.code.specs.declared.character.decoding.DecodeRefusal.the-variants.{NotACharacter, DisparityAboveOne, NotInColumn}
+
+-- Not in the column, with the next disparity.
+abbrev pub not-in-column : ℕ → Refusal
+not-in-column next = record { number = 20; values = next ∷ [] }
+
+abbrev pub decode-refusal : DecodeRefusal → Refusal
+decode-refusal NotACharacter = plain 1
+decode-refusal DisparityAboveOne = plain 14
+decode-refusal (NotInColumn next) = not-in-column next
+
+-- A character that stands for a code or for none, with the disparity after it.
+abbrev pub read-as : Option Code → ℕ → Result Decoded Refusal
+read-as (Some code) next = Ok (record { code = code; disparity = next })
+read-as None next = Err (not-in-column next)
+
+-- The first number that applies, or the code and the disparity after its character.
+abbrev pub decoding : ℕ → ℕ → Result Decoded Refusal
+decoding character disparity =
+    cond (ltb 1023 character) (Err (plain 1))
+    (cond (ltb 1 disparity) (Err (plain 14))
+    (read-as (decoded character disparity) (after character disparity)))

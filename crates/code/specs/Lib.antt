@@ -1,0 +1,5 @@
+pub mod Bits
+pub mod Characters
+pub mod Refusals
+pub mod Encodings
+pub mod Decodings
