@@ -19,6 +19,9 @@ true-from false t = absurd t
 pub from-true : (b : Bool) → b ≡ true → T b
 from-true b e = subst T (sym e) tt
 
+abbrev pub code-with : ℕ → ℕ → Code
+code-with k b = record { kind = k; byte = b }
+
 pub valid-cases : (k b : ℕ) → valid k b ≡ true → ((k ≡ 0) × (b < 256)) ⊎ ((k ≡ 1) × ((b ≡ 0x7C) ⊎ (b ≡ 0xBC)))
 valid-cases k b t = grind (arith, tells)
 

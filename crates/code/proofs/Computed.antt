@@ -1,12 +1,12 @@
 -- A rule of a table or of all small numbers, proved by one test that antt computes.
-use mathlib.Core.Path.{_≡_, _∙_, subst, sym}
-use mathlib.Core.Bool.{Bool, true, false, _&&_}
+use mathlib.Core.Path.{_≡_, refl, _∙_, subst, sym}
+use mathlib.Core.Bool.{Bool, true, false, not, _&&_, _||_}
 use mathlib.Core.List.{List, [], _∷_}
 use Prim.Native.Nat.{ℕ, zero, suc, _+_, _<_}
 use native.Mathlib.Nat.{add-zero, zero-add, add-suc, suc-add, le-of-suc-le-suc, not-suc-le-zero}
 use native.Mathlib.Omega.{arith}
 use mathlib.Core.Logic.{inl, inr}
-use Rattle.std.proofs.shelf.Tests.{cases-lt}
+use Rattle.std.proofs.shelf.Tests.{cases-lt, both-ways}
 use lib.Dec.{T, eqb, ltb, eqb→eq, ltb→lt}
 use lib.ListN.{length, getD}
 
@@ -17,6 +17,11 @@ both-left false b t = absurd t
 pub both-right : (a b : Bool) → T (a && b) → T b
 both-right true b t = t
 both-right false b t = absurd t
+
+-- a test that implies another
+pub implied : (a b : Bool) → T (not a || b) → a ≡ true → T b
+implied true b t e = t
+implied false b t e = let z : _≡_ {A = Bool} false true = e in absurd (both-ways false refl z)
 
 -- each entry is what the rule gives at its place, counted from i
 abbrev pub follows : (ℕ → ℕ) → ℕ → List ℕ → Bool

@@ -14,7 +14,7 @@ use Rattle.std.proofs.shelf.Ways.{tells}
 use Rattle.code.specs.Characters.{encoded, valid, Only-code, codes, data-codes, first-encoded, decoded}
 use Rattle.code.specs.declared.character.Code.{Code}
 use Rattle.code.proofs.Computed.{both-left, both-right}
-use Rattle.code.proofs.Codes.{true-from, from-true, valid-cases}
+use Rattle.code.proofs.Codes.{true-from, from-true, valid-cases, code-with}
 
 -- what is found is a valid code with that character
 abbrev pub Found : ℕ → ℕ → Option Code → Type 0
@@ -46,15 +46,12 @@ missed-one : (c : Code) (rest : Option Code) (t : Bool) → cond t (Some c) rest
 missed-one c rest true e = let z : _≡_ {A = ℕ} 0 1 = cc in absurd (omega arith)
 missed-one c rest false e = (refl, e)
 
-abbrev code : ℕ → ℕ → Code
-code k b = record { kind = k; byte = b }
-
 missed-data : (ch d n : ℕ) (others : List Code) → first-encoded ch d (data-codes n others) ≡ None
     → ((b : ℕ) → b < n → eqb (encoded 0 b d) ch ≡ false) × (first-encoded ch d others ≡ None)
 missed-data ch d zero others e = (λ b h. absurd (not-suc-le-zero h), e)
 missed-data ch d (suc n) others e =
-    let m = missed-data ch d n (code 0 n ∷ others) e in
-    let o = missed-one (code 0 n) (first-encoded ch d others) (eqb (encoded 0 n d) ch) (m .1) in (
+    let m = missed-data ch d n (code-with 0 n ∷ others) e in
+    let o = missed-one (code-with 0 n) (first-encoded ch d others) (eqb (encoded 0 n d) ch) (m .1) in (
       λ b h. elim (cases-lt b n) [
         | inl lt ↦ m .0 b lt
         | inr ge ↦ let q : n ≡ b = omega arith in subst (λ (x : ℕ). eqb (encoded 0 x d) ch ≡ false) q (o .0)
@@ -65,9 +62,9 @@ missed-data ch d (suc n) others e =
 pub missed : (ch d : ℕ) → decoded ch d ≡ None → (k b : ℕ) → T (valid k b) → eqb (encoded k b d) ch ≡ false
 unfolding decoded codes
 missed ch d e k b v =
-    let m = missed-data ch d 256 (code 1 0x7C ∷ code 1 0xBC ∷ []) e in
-    let three = missed-one (code 1 0x7C) (first-encoded ch d (code 1 0xBC ∷ [])) (eqb (encoded 1 0x7C d) ch) (m .1) in
-    let five = missed-one (code 1 0xBC) None (eqb (encoded 1 0xBC d) ch) (three .1) in
+    let m = missed-data ch d 256 (code-with 1 0x7C ∷ code-with 1 0xBC ∷ []) e in
+    let three = missed-one (code-with 1 0x7C) (first-encoded ch d (code-with 1 0xBC ∷ [])) (eqb (encoded 1 0x7C d) ch) (m .1) in
+    let five = missed-one (code-with 1 0xBC) None (eqb (encoded 1 0xBC d) ch) (three .1) in
     elim (valid-cases k b (true-from (valid k b) v)) [
       | inl p ↦ subst (λ (n : ℕ). eqb (encoded n b d) ch ≡ false) (sym (p .0)) (m .0 b (p .1))
       | inr p ↦ subst (λ (n : ℕ). eqb (encoded n b d) ch ≡ false) (sym (p .0)) (elim (p .1) [
@@ -81,7 +78,7 @@ decoded-by : (ch d : ℕ) (c : Code) → d < 2 → Only-code ch c → (r : Bool)
     → (o : Option Code) → decoded ch d ≡ o → Found ch d o → o ≡ cond r (Some c) None
 decoded-by ch d c h only r e (Some x) p f =
     let u = only (x .kind) (x .byte) d (f .0) h (f .1) in
-    let same : x ≡ c = ap₂ code (u .0) (u .1) in
+    let same : x ≡ c = ap₂ code-with (u .0) (u .1) in
     let s = and-from (valid (x .kind) (x .byte)) (eqb (encoded (x .kind) (x .byte) d) ch) (true-from (valid (x .kind) (x .byte)) (f .0)) (eq-eqb (encoded (x .kind) (x .byte) d) ch (f .1)) in
     let t : r ≡ true = sym e ∙ subst (λ (y : Code). (valid (y .kind) (y .byte) && eqb (encoded (y .kind) (y .byte) d) ch) ≡ true) same s in
     ap Some same ∙ ap (λ (q : Bool). cond q (Some c) None) (sym t)

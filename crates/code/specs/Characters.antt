@@ -133,5 +133,5 @@ unfolding codes
 decoded character disparity = first-encoded character disparity codes
 
 -- The two characters of the code differ.
-unfoldable pub unlike : ℕ → ℕ → Bool
+abbrev pub unlike : ℕ → ℕ → Bool
 unlike kind byte = not (eqb (encoded kind byte 0) (encoded kind byte 1))

@@ -1,8 +1,9 @@
 -- What decoding answers.
 use Prim.Native.Nat.{ℕ}
-use mathlib.Core.Bool.{cond}
+use mathlib.Core.Bool.{Bool, false, cond, _&&_}
 use mathlib.Core.List.{[], _∷_}
-use lib.Dec.{ltb}
+use lib.Dec.{eqb, ltb}
+use lib.ListN.{getD}
 use Rattle.std.specs.declared.result.Result.{Result}
 use Rattle.std.specs.declared.result.Result.the-variants.{Ok, Err}
 use Rattle.std.specs.declared.option.Option.{Option}
@@ -34,3 +35,13 @@ decoding character disparity =
     cond (ltb 1023 character) (Err (plain 1))
     (cond (ltb 1 disparity) (Err (plain 14))
     (read-as (decoded character disparity) (after character disparity)))
+
+-- The answer is this data byte with this disparity after it.
+abbrev pub is-decoded : Result Decoded Refusal → ℕ → ℕ → Bool
+is-decoded (Ok d) byte next = eqb (d .code .kind) 0 && eqb (d .code .byte) byte && eqb (d .disparity) next
+is-decoded (Err r) byte next = false
+
+-- The answer is that the character is not in the column, with this disparity after it.
+abbrev pub is-out-of-column : Result Decoded Refusal → ℕ → Bool
+is-out-of-column (Ok d) next = false
+is-out-of-column (Err r) next = eqb (r .number) 20 && eqb (getD (r .values) 0 2) next

@@ -1,6 +1,6 @@
 -- What encoding answers.
 use Prim.Native.Nat.{ℕ}
-use mathlib.Core.Bool.{cond, not, _&&_}
+use mathlib.Core.Bool.{Bool, false, cond, not, _&&_}
 use lib.Dec.{eqb, ltb}
 use Rattle.std.specs.declared.result.Result.{Result}
 use Rattle.std.specs.declared.result.Result.the-variants.{Ok, Err}
@@ -35,3 +35,8 @@ encoding kind byte disparity =
     (cond (eqb kind 1 && not (special byte)) (Err (plain 6))
     (cond (ltb 1 disparity) (Err (plain 14))
     (Ok (sent-as kind byte disparity))))
+
+-- The answer is this character with this disparity after it.
+abbrev pub is-encoded : Result Encoded Refusal → ℕ → ℕ → Bool
+is-encoded (Ok e) character next = eqb (e .character) character && eqb (e .disparity) next
+is-encoded (Err r) character next = false

@@ -3,3 +3,4 @@ pub mod Characters
 pub mod Refusals
 pub mod Encodings
 pub mod Decodings
+pub mod Laws

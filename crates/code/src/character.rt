@@ -15,20 +15,21 @@ use crate::tables::SIX_AT_PLUS;
 
 pub mod encoding;
 pub mod decoding;
+pub mod examples;
 
 // The bytes of the special codes K28.3 and K28.5.
 const K28_3: u8 = 0x7C;
 const K28_5: u8 = 0xBC;
 
 // What a character stands for: a kind, 0 for data and 1 for special, and a byte.
-#[derive(Clone, Copy, PartialEq, Eq, Debug)]
+#[derive(Clone, Copy)]
 pub struct Code {
     pub kind: u8,
     pub byte: u8,
 }
 
 // A character, its first bit highest, and the disparity after it.
-#[derive(Clone, Copy, PartialEq, Eq, Debug)]
+#[derive(Clone, Copy)]
 pub struct Encoded {
     pub character: u16,
     pub disparity: u8,

@@ -10,3 +10,4 @@ pub use character::decoding::decode;
 pub use character::decoding::has_unlike_columns;
 pub use character::encoding::EncodeRefusal;
 pub use character::encoding::encode;
+pub use character::examples::examples_hold;

@@ -7,8 +7,6 @@ ghost use Rattle.code.specs.Characters.{encoded, valid, unlike, decoded, Only-
 ghost use Rattle.code.specs.Refusals.{numbered};
 ghost use Rattle.code.specs.Decodings.{decode-refusal, decoding};
 use super::Code;
-use super::CodeDebug;
-use super::CodePartialEq;
 use super::K28_3;
 use super::K28_5;
 use super::character_of;
@@ -17,14 +15,14 @@ use crate::tables::HIGH_OF_FOUR;
 use crate::tables::LOW_OF_SIX;
 
 // A code that was read, and the disparity after its character.
-#[derive(Clone, Copy, PartialEq, Eq, Debug)]
+#[derive(Clone, Copy)]
 pub struct Decoded {
     pub code: Code,
     pub disparity: u8,
 }
 
 // NotInColumn has the disparity after the character.
-#[derive(Clone, Copy, PartialEq, Eq, Debug)]
+#[derive(Clone, Copy)]
 pub enum DecodeRefusal {
     NotACharacter,
     DisparityAboveOne,

@@ -7,7 +7,7 @@ use super::K28_3;
 use super::K28_5;
 use super::character_of;
 
-#[derive(Clone, Copy, PartialEq, Eq, Debug)]
+#[derive(Clone, Copy)]
 pub enum EncodeRefusal {
     KindAboveOne,
     NotSpecial,
