@@ -1,0 +1,4 @@
+pub mod Readings
+pub mod Hearing
+pub mod Sound
+pub mod Receiving
