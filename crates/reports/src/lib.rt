@@ -1,0 +1,3 @@
+// What a receiver tells, and how it is printed.
+pub mod record;
+pub mod report;
