@@ -1,0 +1,3 @@
+// Examples of what the library does, run as tests.
+#[cfg(test)]
+mod listening;
