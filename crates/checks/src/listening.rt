@@ -1,6 +1,6 @@
 // Recordings and the text that listening makes of them.
-use reports::listening::ListenFaultDisplay;
-use reports::listening::listen;
+use listening::text::ListenFaultDisplay;
+use listening::text::listen;
 use std::alloc::Global;
 use std::test::*;
 

@@ -8,7 +8,7 @@ use lib.Dec.{eqb}
 use lib.ListN.{length}
 use Rattle.std.specs.declared.result.Result.{Result}
 use Rattle.std.specs.declared.result.Result.the-variants.{Ok, Err}
-use Rattle.std.proofs.shelf.Tests.{eqb-true, eqb-false}
+use Rattle.std.proofs.shelf.Tests.{eqb-true, eqb-false, eq-eqb, cond-true}
 use Rattle.code.specs.Refusals.{Refusal, plain}
 use Rattle.line.specs.Waiting.{Meaning, with-first}
 use Rattle.link.specs.declared.heard.Heard.{Heard}
@@ -28,7 +28,7 @@ pub record TookBit (s : State) (tap : Meaning) (heard : Heard) (next : State) (r
 ok-is-ok : {X E : Type 0} (x y : X) → _≡_ {A = Result X E} (Ok x) (Ok y) → x ≡ y
 ok-is-ok x y e = cc
 
-ok-not-err : {X E : Type 0} (x : X) (e : E) → _≡_ {A = Result X E} (Ok x) (Err e) → ⊥
+pub ok-not-err : {X E : Type 0} (x : X) (e : E) → _≡_ {A = Result X E} (Ok x) (Err e) → ⊥
 ok-not-err x e p = let z : _≡_ {A = ℕ} 0 1 = cc in omega arith
 
 abbrev refusing : State → Meaning → Outcome
@@ -77,3 +77,8 @@ spent-by false s tap refusal e a = accepted (tap .waiting) a
 
 pub spent-at : (s : State) (tap : Meaning) (refusal : Refusal) → Err refusal ≡ heard-from s tap .answer → s .ledger .number ≡ most-numbers
 spent-at s tap refusal a = spent-by (eqb (s .ledger .number) most-numbers) s tap refusal refl a
+
+-- and leaves receiver and tap as they were
+pub spent-leaves : (s : State) (tap : Meaning) → s .ledger .number ≡ most-numbers → heard-from s tap ≡ record { answer = Err (plain 7); state = s; tap = tap }
+spent-leaves s tap n =
+    cond-true (eqb (s .ledger .number) most-numbers) (refusing s tap) (heard-first s (tap .capacity) (tap .waiting)) (eq-eqb (s .ledger .number) most-numbers n)

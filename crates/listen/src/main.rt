@@ -1,8 +1,8 @@
 // Reads a recording from standard input and prints what is heard in it, a line each. A recording that cannot be opened
 // gives one line that says why. A failing read or write, and want of memory, end the program with status 1.
-use reports::listening::ListenFault;
-use reports::listening::ListenFaultDisplay;
-use reports::listening::listen;
+use listening::text::ListenFault;
+use listening::text::ListenFaultDisplay;
+use listening::text::listen;
 use std::error::AnyError;
 use std::io::Read;
 

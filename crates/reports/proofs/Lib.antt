@@ -1,2 +1,4 @@
-pub mod Texts
-pub mod Tellings
+pub mod Cyclics
+pub mod QueueLaws
+pub mod Keeping
+pub mod Collectings

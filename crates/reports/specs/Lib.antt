@@ -1,2 +1,4 @@
 pub mod Shown
-pub mod Listening
+pub mod Cyclic
+pub mod Queues
+pub mod Collecting

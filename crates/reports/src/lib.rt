@@ -1,4 +1,5 @@
-// What a receiver tells, and how it is printed.
+// What a receiver tells: records and reports, how they are printed, and the queues that collect them.
+pub mod queue;
 pub mod record;
 pub mod report;
-pub mod listening;
+pub mod collecting;

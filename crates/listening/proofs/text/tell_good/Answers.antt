@@ -1,7 +1,7 @@
 use Rattle.std.specs.Of.String.{string-bytes}
 use Rattle.reports.specs.Shown.{settlement-lines, dword-text, line}
-use Rattle.reports.proofs.Texts.{appended-then}
-use Rattle.reports.proofs.listening.tell_good.Needs as need
+use Rattle.listening.proofs.Texts.{appended-then}
+use Rattle.listening.proofs.text.tell_good.Needs as need
 
 pub returns : need.returns
 returns c =

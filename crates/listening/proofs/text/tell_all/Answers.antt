@@ -8,10 +8,10 @@ use Rattle.std.proofs.shelf.Lists.{nil-from-length}
 use Rattle.line.specs.Waiting.{Meaning}
 use Rattle.link.specs.Receiving.{hear-refusal}
 use Rattle.link.proofs.Hearings.{took, spent-at}
 use Rattle.reports.specs.Shown.{heard-lines}
-use Rattle.reports.specs.Listening.{told, taken}
-use Rattle.reports.proofs.Tellings.{told-more, taken-more, told-none, taken-none}
-use Rattle.reports.proofs.listening.tell_all.Needs as need
+use Rattle.listening.specs.Listening.{told, taken}
+use Rattle.listening.proofs.Tellings.{told-more, taken-more, told-none, taken-none}
+use Rattle.listening.proofs.text.tell_all.Needs as need
 
 pub loop-done-again : need.loop-done-again
 loop-done-again g c =

@@ -10,8 +10,8 @@ use Rattle.link.specs.declared.state.State.{State}
 use Rattle.link.specs.Hearing.{hearing}
 use Rattle.link.specs.Receiving.{most-numbers}
 use Rattle.link.proofs.Hearings.{TookBit}
 use Rattle.reports.specs.Shown.{heard-lines}
-use Rattle.reports.specs.Listening.{told, taken}
+use Rattle.listening.specs.Listening.{told, taken}
 
 module _ (s : State) (tap : Meaning) (heard : Heard) (next : State) (rest : Meaning) (t : TookBit s tap heard next rest) where
   pub told-more : heard-lines heard ++ told next (rest .waiting) ≡ told s (tap .waiting)

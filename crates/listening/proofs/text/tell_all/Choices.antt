@@ -3,8 +3,8 @@ use mathlib.Core.Path.{_≡_}
 use mathlib.Core.List.{_++_}
 use lib.ListN.{length}
 use Rattle.std.specs.Of.String.{string-bytes}
-use Rattle.reports.specs.Listening.{told, taken}
-use Rattle.reports.proofs.listening.tell_all.Given as given
+use Rattle.listening.specs.Listening.{told, taken}
+use Rattle.listening.proofs.text.tell_all.Given as given
 
 -- whatever is told from here on completes the whole
 abbrev pub Inv-loop-done : given.InvT-loop-done

@@ -1,9 +1,9 @@
 use mathlib.Core.List.{_++_}
 use Rattle.std.specs.Of.String.{string-bytes}
 use Rattle.reports.specs.declared.report.Report.the-variants.{Bad}
 use Rattle.reports.specs.Shown.{settlement-lines, report-text, line, lost-lines}
-use Rattle.reports.proofs.Texts.{appended, appended-then}
-use Rattle.reports.proofs.listening.tell_bad.Needs as need
+use Rattle.listening.proofs.Texts.{appended, appended-then}
+use Rattle.listening.proofs.text.tell_bad.Needs as need
 
 pub returns : need.returns
 returns c =

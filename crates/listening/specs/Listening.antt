@@ -17,9 +17,9 @@ use Rattle.line.specs.Opening.{opening, recording-refusal}
 use Rattle.link.specs.declared.state.State.{State}
 use Rattle.link.specs.Hearing.{fresh, hearing}
 use Rattle.link.specs.Receiving.{most-numbers}
-use Rattle.reports.specs.declared.listening.ListenFault.{ListenFault}
-use Rattle.reports.specs.declared.listening.ListenFault.the-variants.{NotOpened, NoMemory}
+use Rattle.listening.specs.declared.text.ListenFault.{ListenFault}
+use Rattle.listening.specs.declared.text.ListenFault.the-variants.{NotOpened, NoMemory}
 use Rattle.reports.specs.Shown.{heard-lines, line, end-text}
 
 -- The lines that bits give, until the numbers are spent.
 abbrev pub told : State → List ℕ → List ℕ
