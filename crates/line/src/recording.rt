@@ -187,6 +187,10 @@ pub impl Tap for Recording<'_> as RecordingTap {
     fn count(&self) -> usize {
         count_left(self.bytes, self.index, self.gone)
     }
+
+    fn is_dry(&self) -> bool {
+        next_bit(self.bytes, self.index, self.gone).is_none()
+    }
 }
 
 #[cfg(test)]

@@ -1,5 +1,6 @@
 // Taps: what hands out bits one by one.
 ghost use mathlib.Core.Path.{_≡_};
+ghost use lib.Dec.{eqb};
 ghost use lib.ListN.{length};
 ghost use Rattle.line.specs.Waiting.{Meaning, Taken, IsBit, DryStill};
 
@@ -16,4 +17,11 @@ pub trait Tap {
     // How many bits wait.
     fn count(&self) -> usize
         ensures { λ r. ⌜ r ≡ length (meaning (now (self .entry)) .waiting) ⌝ };
+
+    // Whether no bit waits. A tap whose count takes long may answer this sooner.
+    fn is_dry(&self) -> bool
+        ensures { λ r. ⌜ r ≡ eqb (length (meaning (now (self .entry)) .waiting)) 0 ⌝ }
+    {
+        self.count() == 0
+    }
 }

@@ -1,6 +1,7 @@
 -- Collecting, one hearing after the other: whatever is collected from here on completes the whole.
 use Prim.Native.Nat.{ℕ, _+_, _-_, _≤_, _<_}
 use mathlib.Core.Path.{_≡_, refl, sym, ap, ap₂, subst, _∙_}
+use mathlib.Core.Bool.{cond}
 use mathlib.Core.List.{List, [], _∷_}
 use native.Mathlib.Omega.{arith}
 use lib.Dec.{eqb, ltb}
@@ -25,9 +26,12 @@ use Rattle.reports.proofs.Keeping.{kept-none, kept-then}
 -- ---- what a collection comes to, by its first test that applies
 
 module _ (most room places : ℕ) (s : State) where
-  pub dry : (bits : List ℕ) → length bits ≡ 0 → collected most room places s bits ≡ stopped Dry s bits
-  dry [] h = refl
-  dry (bit ∷ bits) h = absurd (omega arith)
+  -- a dry tap comes before every other reason
+  pub or-dry : (stop : Stop) (bits : List ℕ) → (0 < length bits → collected most room places s bits ≡ stopped stop s bits)
+    → collected most room places s bits ≡ stopped (cond (eqb (length bits) 0) Dry stop) s bits
+  or-dry stop [] f = refl
+  or-dry stop (bit ∷ bits) f =
+    f (omega arith) ∙ ap (λ (x : Stop). stopped x s (bit ∷ bits)) (sym (cond-false (eqb (length (bit ∷ bits)) 0) Dry stop (ne-eqb (length (bit ∷ bits)) 0 (λ z. omega arith))))
 
   pub at-most : (bits : List ℕ) → 0 < length bits → most ≡ 0 → collected most room places s bits ≡ stopped Spent s bits
   at-most [] h m = absurd (omega arith)
@@ -94,9 +98,9 @@ completes-more c c₁ whole i d₀ d d₁ p₀ p p₁ heard f e kd kp n stop sta
           } in
     counted (f (n + 1) stop state waiting d′ p′ (subst (λ (k : Collection). Collects k (n + 1) stop state waiting d d′ p p′) (sym e) y)) (omega arith)
 
-pub completes-last : (c whole : Collection) (i j : ℕ) (d₀ d : Queue DwordRecord) (p₀ p : Queue Report) (stop : Stop) (s : State) (bits : List ℕ)
-    → Completes c whole i d₀ d p₀ p → c ≡ stopped stop s bits → j ≡ i → Collects whole j stop s bits d₀ d p₀ p
-completes-last c whole i j d₀ d p₀ p stop s bits f e h =
-    let y : Collects (stopped stop s bits) 0 stop s bits d d p p = record
-          { taken = refl; because = refl; after = refl; left = refl; kept-dwords = kept-none d; kept-reports = kept-none p } in
-    counted (f 0 stop s bits d p (subst (λ (k : Collection). Collects k 0 stop s bits d d p p) (sym e) y)) (omega arith)
+pub completes-last : (c whole : Collection) (i j : ℕ) (d₀ d : Queue DwordRecord) (p₀ p : Queue Report) (stop stop′ : Stop) (s : State) (bits : List ℕ)
+    → Completes c whole i d₀ d p₀ p → c ≡ stopped stop s bits → j ≡ i → stop′ ≡ stop → Collects whole j stop′ s bits d₀ d p₀ p
+completes-last c whole i j d₀ d p₀ p stop stop′ s bits f e h r =
+    let y : Collects (stopped stop s bits) 0 stop′ s bits d d p p = record
+          { taken = refl; because = r; after = refl; left = refl; kept-dwords = kept-none d; kept-reports = kept-none p } in
+    counted (f 0 stop′ s bits d p (subst (λ (k : Collection). Collects k 0 stop′ s bits d d p p) (sym e) y)) (omega arith)

@@ -1,6 +1,8 @@
 // Collecting: many hearings into two queues.
 ghost use mathlib.Core.Path.{_≡_};
+ghost use mathlib.Core.Bool.{cond};
 ghost use mathlib.Core.List.{[], _∷_};
+ghost use lib.Dec.{eqb};
 ghost use Prim.Native.Nat.{_+_, _≤_, _<_};
 ghost use lib.ListN.{length};
 ghost use Rattle.reports.specs.Queues.{Kept, room-of};
@@ -108,6 +110,15 @@ fn keep_dword(dwords: &mut Queue<'_, DwordRecord>, heard: Heard)
     }
 }
 
+// The end of collecting: a dry tap comes before every other reason.
+fn stop_at<T: Tap>(tap: &T, bits: usize, stop: Stop) -> Collected
+    ensures bits { λ r. ⌜ r .bits ≡ bits ⌝ }
+    ensures stop { λ r. ⌜ r .stop ≡ cond (eqb (length (meaning (now (tap .entry)) .waiting)) 0) Stop.Dry stop ⌝ }
+{
+    let stop = if tap.is_dry() { Stop::Dry } else { stop };
+    Collected { bits, stop }
+}
+
 // Hears at most so many bits into the two queues.
 pub fn collect<T: Tap>(receiver: &mut Receiver, tap: &mut T, most: usize, dwords: &mut Queue<'_, DwordRecord>, reports: &mut Queue<'_, Report>) -> Collected
     ensures collects { λ r. ⌜ Collects (collected most (room-of (now (dwords .entry))) (room-of (now (reports .entry))) (now (receiver .entry) .state) (meaning (now (tap .entry)) .waiting)) (r .bits) (r .stop) (now (receiver .exit) .state) (meaning (now (tap .exit)) .waiting) (now (dwords .entry)) (now (dwords .exit)) (now (reports .entry)) (now (reports .exit)) ⌝ }
@@ -115,34 +126,23 @@ pub fn collect<T: Tap>(receiver: &mut Receiver, tap: &mut T, most: usize, dwords
     ensures capacity { λ r. ⌜ meaning (now (tap .exit)) .capacity ≡ meaning (now (tap .entry)) .capacity ⌝ }
 {
     const LEAST_PLACES: usize = 3;
-    let waiting = tap.count();
-    let end = waiting.min(most);
-    for bits in 0..end {
+    for bits in 0..most {
         if dwords.room() == 0 {
-            return Collected {
-                bits,
-                stop: Stop::DwordsFull,
-            };
+            return stop_at(tap, bits, Stop::DwordsFull);
         }
         if reports.room() < LEAST_PLACES {
-            return Collected {
-                bits,
-                stop: Stop::ReportsFull,
-            };
+            return stop_at(tap, bits, Stop::ReportsFull);
         }
         match receiver.hear(tap) {
             Ok(heard) => {
+                if let Heard::Dry = heard {
+                    return stop_at(tap, bits, Stop::Dry);
+                }
                 keep_dword(dwords, heard);
                 keep_reports(reports, heard);
             }
-            Err(refusal) => {
-                return Collected {
-                    bits,
-                    stop: Stop::Declined(refusal),
-                };
-            }
+            Err(refusal) => return stop_at(tap, bits, Stop::Declined(refusal)),
         }
     }
-    let stop = if waiting <= most { Stop::Dry } else { Stop::Spent };
-    Collected { bits: end, stop }
+    stop_at(tap, most, Stop::Spent)
 }
