@@ -19,13 +19,24 @@ use Rattle.link.specs.Hearing.{fresh, hearing}
 use Rattle.link.specs.Receiving.{most-numbers}
 use Rattle.listening.specs.declared.text.ListenFault.{ListenFault}
 use Rattle.listening.specs.declared.text.ListenFault.the-variants.{NotOpened, NoMemory}
-use Rattle.reports.specs.Shown.{heard-lines, line, end-text}
+use Rattle.reports.specs.declared.record.DwordRecord.{DwordRecord}
+use Rattle.reports.specs.declared.report.Report.{Report}
+use Rattle.reports.specs.Shown.{heard-lines, line, dword-text, report-text, end-text}
 
 -- The lines that bits give, until the numbers are spent.
 abbrev pub told : State → List ℕ → List ℕ
 told s [] = []
 told s (bit ∷ bits) =
     cond (eqb (s .ledger .number) most-numbers) [] (heard-lines (hearing s bit .heard) ++ told (hearing s bit .state) bits)
+
+-- The lines of collected reports, and of collected dwords.
+abbrev pub report-lines : List Report → List ℕ
+report-lines [] = []
+report-lines (report ∷ reports) = line (report-text report) ++ report-lines reports
+
+abbrev pub dword-lines : List DwordRecord → List ℕ
+dword-lines [] = []
+dword-lines (dword ∷ dwords) = line (dword-text dword) ++ dword-lines dwords
 
 -- How many bits are taken.
 abbrev pub taken : State → List ℕ → ℕ

@@ -1,15 +1,15 @@
 // Listening: the text of all that is heard in a tap, or in a recording.
 ghost use mathlib.Core.Path.{_≡_};
-ghost use mathlib.Core.List.{_++_};
+ghost use mathlib.Core.List.{[], _++_};
 ghost use Rattle.std.specs.Of.String.{string-bytes};
 ghost use Rattle.std.specs.Vec.{made};
 ghost use Rattle.std.specs.declared.option.Option.the-variants.{Some};
 ghost use Rattle.listening.specs.declared.text.ListenFault.the-variants.{NotOpened, NoMemory};
-ghost use Rattle.reports.specs.Shown.{settlement-lines, good-lines, lost-lines, bad-lines, heard-lines};
-ghost use Rattle.listening.specs.Listening.{told, taken, listening, Listened, fault-text};
+ghost use Rattle.reports.specs.Queues.{elements, memory-of};
+ghost use Rattle.listening.specs.Listening.{report-lines, dword-lines, told, taken, listening, Listened, fault-text};
+use reports::queue::Queue;
 use reports::record::DwordRecord;
 use reports::record::DwordRecordDisplay;
-use reports::report::BadReport;
 use reports::report::EndOfTap;
 use reports::report::EndOfTapDisplay;
 use reports::report::Report;
@@ -18,13 +18,24 @@ use line::recording::Recording;
 use line::recording::RecordingFault;
 use line::recording::RecordingTap;
 use line::tap::Tap;
-use link::heard::BadDword;
-use link::heard::GoodDword;
-use link::heard::Heard;
-use link::heard::Settlement;
+use link::dword::Dword;
 use link::receiver::Receiver;
+use reports::collecting::Stop;
+use reports::collecting::collect;
 use std::alloc::Global;
 use std::fmt;
+
+// What stands in memory that holds no dword yet.
+const NO_DWORD: DwordRecord = DwordRecord {
+    number: 0,
+    dword: Dword {
+        kind: 0,
+        b0: 0,
+        b1: 0,
+        b2: 0,
+        b3: 0,
+    },
+};
 
 // Why listening gave up: the recording was not opened, for this whole reason, or memory for the text was wanting.
 #[derive(Clone, Copy)]
@@ -66,70 +77,51 @@ pub impl fmt::Display for ListenFault as ListenFaultDisplay {
     }
 }
 
-fn tell_settlement(text: &mut String, settlement: Settlement) -> fmt::Result
-    ensures { λ r. ⌜ made r (λ _. string-bytes (now (text .exit)) ≡ string-bytes (now (text .entry)) ++ settlement-lines settlement) ⌝ }
+// Appends the lines of the reports to the text, and empties their queue.
+fn tell_reports(text: &mut String, reports: &mut Queue<'_, Report>) -> fmt::Result
+    ensures text { λ r. ⌜ made r (λ _. string-bytes (now (text .exit)) ≡ string-bytes (now (text .entry)) ++ report-lines (elements (now (reports .entry)))) ⌝ }
+    ensures empty { λ r. ⌜ made r (λ _. elements (now (reports .exit)) ≡ []) ⌝ }
+    ensures memory { λ r. ⌜ made r (λ _. memory-of (now (reports .exit)) ≡ memory-of (now (reports .entry))) ⌝ }
 {
-    match settlement {
-        Settlement::Unsettled => Ok(()),
-        Settlement::Vouched(span) => text.writeln(Report::Vouched(span)),
-        Settlement::Doubtful(span) => text.writeln(Report::Doubtful(span)),
+    while let Some(report) = reports.pop() {
+        text.writeln(report)?;
     }
+    Ok(())
 }
 
-fn tell_good(text: &mut String, good: GoodDword) -> fmt::Result
-    ensures { λ r. ⌜ made r (λ _. string-bytes (now (text .exit)) ≡ string-bytes (now (text .entry)) ++ good-lines good) ⌝ }
+// The same for dwords.
+fn tell_dwords(text: &mut String, dwords: &mut Queue<'_, DwordRecord>) -> fmt::Result
+    ensures text { λ r. ⌜ made r (λ _. string-bytes (now (text .exit)) ≡ string-bytes (now (text .entry)) ++ dword-lines (elements (now (dwords .entry)))) ⌝ }
+    ensures empty { λ r. ⌜ made r (λ _. elements (now (dwords .exit)) ≡ []) ⌝ }
+    ensures memory { λ r. ⌜ made r (λ _. memory-of (now (dwords .exit)) ≡ memory-of (now (dwords .entry))) ⌝ }
 {
-    tell_settlement(text, good.settlement)?;
-    text.writeln(DwordRecord {
-        number: good.number,
-        dword: good.dword,
-    })
-}
-
-fn tell_lost(text: &mut String, lost: bool) -> fmt::Result
-    ensures { λ r. ⌜ made r (λ _. string-bytes (now (text .exit)) ≡ string-bytes (now (text .entry)) ++ lost-lines lost) ⌝ }
-{
-    if lost { text.writeln(Report::Lost) } else { Ok(()) }
-}
-
-fn tell_bad(text: &mut String, bad: BadDword) -> fmt::Result
-    ensures { λ r. ⌜ made r (λ _. string-bytes (now (text .exit)) ≡ string-bytes (now (text .entry)) ++ bad-lines bad) ⌝ }
-{
-    tell_settlement(text, bad.settlement)?;
-    text.writeln(Report::Bad(BadReport {
-        number: bad.number,
-        mask: bad.mask,
-    }))?;
-    tell_lost(text, bad.lost)
-}
-
-// Appends the lines of an answer to the text.
-fn tell(text: &mut String, heard: Heard) -> fmt::Result
-    ensures { λ r. ⌜ made r (λ _. string-bytes (now (text .exit)) ≡ string-bytes (now (text .entry)) ++ heard-lines heard) ⌝ }
-{
-    match heard {
-        Heard::Dry => Ok(()),
-        Heard::More => Ok(()),
-        Heard::Slip => text.writeln(Report::Slip),
-        Heard::Gained => text.writeln(Report::Gained),
-        Heard::Good(good) => tell_good(text, good),
-        Heard::Bad(bad) => tell_bad(text, bad),
+    while let Some(dword) = dwords.pop() {
+        text.writeln(dword)?;
     }
+    Ok(())
 }
 
-// Hears all bits of a tap and appends the lines to the text. The answer is how many bits were taken.
+// Hears all bits of a tap and appends the lines to the text. The answer is how many bits were taken. With room for one
+// dword and three reports, collecting stops after each answer that has lines, and the reports come before the dword.
 fn tell_all<T: Tap>(receiver: &mut Receiver, tap: &mut T, text: &mut String) -> Result<usize, fmt::Error>
     ensures text { λ r. ⌜ made r (λ n. string-bytes (now (text .exit)) ≡ string-bytes (now (text .entry)) ++ told (now (receiver .entry) .state) (meaning (now (tap .entry)) .waiting)) ⌝ }
     ensures taken { λ r. ⌜ made r (λ n. n ≡ taken (now (receiver .entry) .state) (meaning (now (tap .entry)) .waiting)) ⌝ }
 {
-    let count = tap.count();
-    for done in 0..count {
-        match receiver.hear(tap) {
-            Ok(heard) => tell(text, heard)?,
-            Err(_refusal) => return Ok(done),
+    let mut dword_memory = [NO_DWORD; 1];
+    let mut report_memory = [Report::Lost; 3];
+    let mut dwords = Queue::over(&mut dword_memory);
+    let mut reports = Queue::over(&mut report_memory);
+    let before = tap.count();
+    'hearing: loop {
+        let collected = collect(receiver, tap, usize::MAX, &mut dwords, &mut reports);
+        tell_reports(text, &mut reports)?;
+        tell_dwords(text, &mut dwords)?;
+        match collected.stop {
+            Stop::Dry => return Ok(before - tap.count()),
+            Stop::Declined(_) => return Ok(before - tap.count()),
+            _ => {}
         }
     }
-    Ok(count)
 }
 
 // The lines of all that a receiver which has heard nothing hears in a tap, and the end.

@@ -61,3 +61,12 @@ module _ {T : Type 0} where
           ∙ sym (written-append (start a) (count-of a) xs ys (memory-of a)))))
       ; first = q .first ∙ p .first
       }
+
+  -- pushing leaves as many places as there were
+  length-written : (first count : ℕ) (xs memory : List T) → length (written first count xs memory) ≡ length memory
+  length-written first count [] memory = refl
+  length-written first count (x ∷ xs) memory =
+    length-written first (count + 1) xs (set memory (wrap (length memory) (first + count)) x) ∙ length-set memory (wrap (length memory) (first + count)) x
+
+  pub kept-size : (q q′ : Queue T) (xs : List T) → Kept q xs q′ → length (memory-of q′) ≡ length (memory-of q)
+  kept-size q q′ xs k = ap length (k .memory) ∙ length-written (start q) (count-of q) xs (memory-of q)
