@@ -1,2 +1,5 @@
-// Bringing up a drive: the signals that it begins with.
+// Bringing up a drive: signals, then speed negotiation windows.
 pub mod signal;
+pub mod end;
+mod rate;
+mod detector;
