@@ -1,3 +1,4 @@
 pub mod BitLists
+pub mod Cyclics
 pub mod Recordings
 pub mod Faults

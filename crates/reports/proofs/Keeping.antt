@@ -14,7 +14,7 @@ use Rattle.std.proofs.shelf.Lists.{length-set}
 use Rattle.reports.specs.declared.queue.Queue.{Queue}
 use Rattle.reports.specs.declared.queue.QueueRefusal.{QueueRefusal}
 use Rattle.reports.specs.declared.queue.QueueRefusal.the-variants.{Full}
-use Rattle.reports.specs.Cyclic.{wrap}
+use Rattle.line.specs.Cyclic.{wrap}
 use Rattle.reports.specs.Queues.{memory-of, count-of, elements, room-of, start, free-place, written, Kept, Appended, Pushed, pushing, queue-refusal}
 
 module _ {T : Type 0} where

@@ -1,4 +1,3 @@
-pub mod Cyclics
 pub mod QueueLaws
 pub mod Keeping
 pub mod Collectings

@@ -1,4 +1,3 @@
 pub mod Shown
-pub mod Cyclic
 pub mod Queues
 pub mod Collecting

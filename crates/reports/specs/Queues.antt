@@ -14,7 +14,7 @@ use Rattle.code.specs.Refusals.{Refusal, plain}
 use Rattle.reports.specs.declared.queue.Queue.{Queue}
 use Rattle.reports.specs.declared.queue.QueueRefusal.{QueueRefusal}
 use Rattle.reports.specs.declared.queue.QueueRefusal.the-variants.{Full}
-use Rattle.reports.specs.Cyclic.{cyclic, wrap}
+use Rattle.line.specs.Cyclic.{cyclic, wrap}
 
 module _ {T : Type 0} where
   abbrev pub queue-refusal : QueueRefusal T → Refusal

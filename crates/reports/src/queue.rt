@@ -3,8 +3,9 @@ ghost use mathlib.Core.Path.{_≡_};
 ghost use mathlib.Core.List.{[], _∷_};
 ghost use Prim.Native.Nat.{_+_, _<_, _≤_};
 ghost use lib.ListN.{length, getD, set};
+ghost use Rattle.std.specs.Orderings.{When};
 ghost use Rattle.code.specs.Refusals.{numbered};
-ghost use Rattle.reports.specs.Cyclic.{wrap};
+ghost use Rattle.line.specs.Cyclic.{wrap};
 ghost use Rattle.reports.specs.Queues.{memory-of, start, count-of, elements, room-of, queue-refusal, pushing, Appended, Pushed, Popped};
 
 // The elements that wait lie in the memory from `front` on, past its end from the start again. Whatever stands in
@@ -62,11 +63,7 @@ impl<'a, T: Copy> Queue<'a, T> {
         ensures memory { λ r. ⌜ memory-of r ≡ now (memory .entry) ⌝ }
         ensures empty { λ r. ⌜ elements r ≡ [] ⌝ }
     {
-        Queue {
-            memory,
-            front: 0,
-            count: 0,
-        }
+        Queue::holding(memory, 0)
     }
 
     // How many elements can still be pushed.
@@ -93,10 +90,28 @@ impl<'a, T: Copy> Queue<'a, T> {
     pub fn pop(&mut self) -> Option<T>
         ensures { λ r. ⌜ Popped (now (self .entry)) r (now (self .exit)) ⌝ }
     {
-        if self.room() == self.memory.len() {
+        if self.is_empty() {
             return None;
         }
         Some(self.remove_first())
+    }
+
+    // A queue of the first so many elements of the memory.
+    fn holding(memory: &'a mut [T], count: usize) -> Queue<'a, T>
+        ensures memory { λ r. ⌜ memory-of r ≡ now (memory .entry) ⌝ }
+        ensures none { λ r. ⌜ (count ≡ 0 → elements r ≡ []) ⌝ }
+    {
+        Queue {
+            memory,
+            front: 0,
+            count,
+        }
+    }
+
+    fn is_empty(&self) -> bool
+        ensures { λ r. ⌜ When r (elements (now (self .entry)) ≡ []) (0 < count-of (now (self .entry))) ⌝ }
+    {
+        self.room() == self.memory.len()
     }
 
     fn append(&mut self, element: T)

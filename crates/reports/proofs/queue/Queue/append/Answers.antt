@@ -3,7 +3,7 @@ use Prim.Native.Nat.{ℕ, _%_, _+_, _<_, min}
 use native.Mathlib.Omega.{arith}
 use lib.ListN.{length, set}
 use Rattle.std.proofs.shelf.Lists.{length-set}
-use Rattle.reports.specs.Cyclic.{wrap}
+use Rattle.line.specs.Cyclic.{wrap}
 use Rattle.reports.proofs.QueueLaws.{push-shown}
 use Rattle.reports.proofs.queue.Queue.append.Needs as need
 

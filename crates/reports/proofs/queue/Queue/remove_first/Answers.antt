@@ -3,7 +3,7 @@ use mathlib.Core.List.{_∷_}
 use Prim.Native.Nat.{_<_, _-_, _%_, min}
 use native.Mathlib.Omega.{arith}
 use lib.ListN.{length}
-use Rattle.reports.specs.Cyclic.{cyclic}
+use Rattle.line.specs.Cyclic.{cyclic}
 use Rattle.reports.proofs.QueueLaws.{pop-shown}
 use Rattle.reports.proofs.queue.Queue.remove_first.Needs as need
 

@@ -1,0 +1,4 @@
+// Lines over borrowed memory.
+mod capacity;
+pub mod packed_line;
+pub mod word_line;
