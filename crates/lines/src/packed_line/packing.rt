@@ -151,6 +151,7 @@ impl<'a> PackedLine<'a> {
     }
 }
 
+// Each call also says what the memory holds after it, and that it is still the memory that was lent.
 pub impl Tap for PackedLine<'_> as PackedLineTap {
     ghost meaning = { packed-meaning };
 

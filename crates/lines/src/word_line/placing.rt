@@ -124,6 +124,7 @@ impl<'a> WordLine<'a> {
     }
 }
 
+// Each call also says what the memory holds after it, and that it is still the memory that was lent.
 pub impl Tap for WordLine<'_> as WordLineTap {
     ghost meaning = { word-meaning };
 
