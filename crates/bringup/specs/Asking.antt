@@ -2,7 +2,6 @@
 use Prim.Native.Nat.{ℕ, _+_, _*_, _%_}
 use lib.Dec.{ltb, leb}
 use mathlib.Core.Bool.{Bool, true, false, cond, _&&_}
-use Rattle.bringup.specs.declared.signal.Signal.{Signal}
 use Rattle.bringup.specs.declared.signal.Signal.the-variants.{Cominit, Comsas}
 use Rattle.bringup.specs.declared.end.End.{End}
 use Rattle.bringup.specs.declared.end.Phase.{Phase}
@@ -14,9 +13,9 @@ use Rattle.bringup.specs.declared.end.Outcome.the-variants.{Pending, Ready, Fa
 use Rattle.bringup.specs.Signals.{idle-of, burst}
 use Rattle.bringup.specs.Rates.{supports}
 
--- Whether a signal is in a burst at its tick t: six times an idle and a burst, then idle.
-abbrev pub in-burst : Signal → ℕ → Bool
-in-burst s t = ltb t (6 * (idle-of s + burst)) && leb (idle-of s) (t % (idle-of s + burst))
+-- Whether a signal of such idles is in a burst at its tick t: six times an idle and a burst, then idle.
+abbrev pub in-burst : ℕ → ℕ → Bool
+in-burst idle t = ltb t (6 * (idle + burst)) && leb idle (t % (idle + burst))
 
 abbrev pub sending : Bool → Activity
 sending true = Burst
@@ -30,9 +29,9 @@ sending-window e =
 
 abbrev pub activity-in : Phase → End → Activity
 activity-in phase.Unstarted e = Idle
-activity-in phase.SendingCominit e = sending (in-burst Cominit (e .elapsed))
+activity-in phase.SendingCominit e = sending (in-burst (idle-of Cominit) (e .elapsed))
 activity-in phase.Awaiting e = Idle
-activity-in phase.SendingComsas e = sending (in-burst Comsas (e .elapsed))
+activity-in phase.SendingComsas e = sending (in-burst (idle-of Comsas) (e .elapsed))
 activity-in phase.Falling e = Idle
 activity-in phase.Negotiating e = sending-window e
 activity-in phase.Ready e = Idle

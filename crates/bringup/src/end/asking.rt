@@ -2,6 +2,7 @@
 ghost use mathlib.Core.Path.{_≡_};
 ghost use Prim.Native.Nat.{_≤_};
 ghost use Rattle.bringup.specs.Rates.{rate-number};
+ghost use Rattle.bringup.specs.Signals.{idle-of};
 ghost use Rattle.bringup.specs.Asking.{activity, sending, in-burst, sending-window, outcome-in};
 use crate::end::Activity;
 use crate::end::End;
@@ -11,7 +12,7 @@ use crate::signal::Signal;
 
 // Six times an idle and a burst of 320 ticks, then idle, at tick `elapsed` of it.
 fn signalling(signal: Signal, elapsed: u32) -> Activity
-    ensures { λ r. ⌜ r ≡ sending (in-burst signal elapsed) ⌝ }
+    ensures { λ r. ⌜ r ≡ sending (in-burst (idle-of signal) elapsed) ⌝ }
 {
     let idle = signal.idle();
     let period = idle + 320;

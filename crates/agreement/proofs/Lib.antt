@@ -1,0 +1,11 @@
+pub mod Machine
+pub mod Hearing
+pub mod Trains
+pub mod Stages
+pub mod Line
+pub mod Windows
+pub mod Pair
+pub mod Settle
+pub mod Meeting
+pub mod Agreement
+pub mod Calls
