@@ -9,6 +9,7 @@ use mathlib.Core.List.{List, [], _∷_, _++_}
 use mathlib.Core.Logic.{_⊎_, inl, inr}
 use Rattle.std.proofs.shelf.Tests.{cond-true, cond-false, cond-both, lt-ltb, le-ltb, eq-eqb, ne-eqb, cases-bool, both-ways, true≢false, false≢true}
 use Rattle.std.proofs.shelf.Ways.{tells}
+use Rattle.code.specs.Refusals.{plain}
 use Rattle.bringup.specs.declared.end.Phase.{Phase}
 use Rattle.bringup.specs.declared.end.Phase.the-variants.{Unstarted, SendingCominit, Awaiting, SendingComsas, Falling, Negotiating, Ready, Failed}
 use Rattle.bringup.specs.declared.rate.RateSet.{RateSet}
@@ -136,22 +137,22 @@ abbrev left : Called → End
 left x = x .end
 
 start-outside : (n : ℕ) (e : End) → outside n ≡ true → started n e ≡ e
-start-outside n e o = ap left (cond-true (outside n) (declined 8 e) (cond (is-unstarted (e .phase)) (done (begun (rate-set n))) (declined 9 e)) o)
+start-outside n e o = ap left (cond-true (outside n) (declined (plain 8) e) (cond (is-unstarted (e .phase)) (done (begun (rate-set n))) (declined (plain 9) e)) o)
 
-start-inside : (n : ℕ) (e : End) → outside n ≡ false → started n e ≡ left (cond (is-unstarted (e .phase)) (done (begun (rate-set n))) (declined 9 e))
-start-inside n e o = ap left (cond-false (outside n) (declined 8 e) (cond (is-unstarted (e .phase)) (done (begun (rate-set n))) (declined 9 e)) o)
+start-inside : (n : ℕ) (e : End) → outside n ≡ false → started n e ≡ left (cond (is-unstarted (e .phase)) (done (begun (rate-set n))) (declined (plain 9) e))
+start-inside n e o = ap left (cond-false (outside n) (declined (plain 8) e) (cond (is-unstarted (e .phase)) (done (begun (rate-set n))) (declined (plain 9) e)) o)
 
 start-again : (n : ℕ) (e : End) → is-unstarted (e .phase) ≡ false → started n e ≡ e
 start-again n e u = elim (cases-bool (outside n)) [
   | inl o ↦ start-outside n e o
-  | inr o ↦ start-inside n e o ∙ ap left (cond-false (is-unstarted (e .phase)) (done (begun (rate-set n))) (declined 9 e) u)
+  | inr o ↦ start-inside n e o ∙ ap left (cond-false (is-unstarted (e .phase)) (done (begun (rate-set n))) (declined (plain 9) e) u)
 ]
 
 start-first : (n : ℕ) (e : End) → outside n ≡ false → is-unstarted (e .phase) ≡ true → started n e ≡ begun (rate-set n)
-start-first n e o u = start-inside n e o ∙ ap left (cond-true (is-unstarted (e .phase)) (done (begun (rate-set n))) (declined 9 e) u)
+start-first n e o u = start-inside n e o ∙ ap left (cond-true (is-unstarted (e .phase)) (done (begun (rate-set n))) (declined (plain 9) e) u)
 
 -- a note, by its three tests
-note-by : (a b u : Bool) (e f : End) → left (cond a (declined 10 e) (cond b (declined 11 e) (cond u (declined 12 e) (done f)))) ≡ cond (not a && (not b && not u)) f e
+note-by : (a b u : Bool) (e f : End) → left (cond a (declined (plain 10) e) (cond b (declined (plain 11) e) (cond u (declined (plain 12) e) (done f)))) ≡ cond (not a && (not b && not u)) f e
 note-by true b u e f = refl
 note-by false true u e f = refl
 note-by false false true e f = refl

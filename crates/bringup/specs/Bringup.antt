@@ -192,21 +192,21 @@ pub record Called : Type 0 where
   pub answer : Result Unit Refusal
   pub end : End
 
-abbrev pub declined : ℕ → End → Called
-declined number e = record { answer = Err (plain number); end = e }
+abbrev pub declined : Refusal → End → Called
+declined refusal e = record { answer = Err refusal; end = e }
 
 abbrev pub done : End → Called
 done e = record { answer = Ok tt; end = e }
 
 abbrev pub starting : ℕ → End → Called
 starting n e =
-    cond (eqb n 0 || ltb 7 n) (declined 8 e)
-    (cond (is-unstarted (e .phase)) (done (begun (rate-set n))) (declined 9 e))
+    cond (eqb n 0 || ltb 7 n) (declined (start-refusal RateSetOutside) e)
+    (cond (is-unstarted (e .phase)) (done (begun (rate-set n))) (declined (start-refusal StartedBefore) e))
 
 -- So many ticks pass, and then the sign follows.
 abbrev pub noting : ℕ → ℕ → End → Called
 noting k g e =
-    cond (ltb 400000 k) (declined 10 e)
-    (cond (ltb 4 g) (declined 11 e)
-    (cond (is-unstarted (e .phase)) (declined 12 e)
+    cond (ltb 400000 k) (declined (note-refusal TooManyTicks) e)
+    (cond (ltb 4 g) (declined (note-refusal SignOutside) e)
+    (cond (is-unstarted (e .phase)) (declined (note-refusal NotStarted) e)
     (done (signed (sign-at g) (ticks k e)))))

@@ -53,9 +53,9 @@ pub record Written : Type 0 where
   pub memory : List ℕ
 
 abbrev pub writing-at : Option Signal → ℕ → List ℕ → Written
-writing-at None place memory = record { answer = Err (plain 18); memory = memory }
+writing-at None place memory = record { answer = Err (signal-refusal NoSuchSignal); memory = memory }
 writing-at (Some signal) place memory =
-    cond (ltb (length memory) (place + 13)) (record { answer = Err (plain 19); memory = memory })
+    cond (ltb (length memory) (place + 13)) (record { answer = Err (signal-refusal TooFewPlaces); memory = memory })
     (record { answer = Ok tt; memory = written-at memory place (times-of signal) })
 
 abbrev pub signal-writing : ℕ → ℕ → List ℕ → Written

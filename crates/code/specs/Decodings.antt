@@ -15,25 +15,22 @@ use Rattle.code.specs.declared.character.decoding.Decoded.{Decoded}
 use Rattle.code.specs.declared.character.decoding.DecodeRefusal.{DecodeRefusal}
 use Rattle.code.specs.declared.character.decoding.DecodeRefusal.the-variants.{NotACharacter, DisparityAboveOne, NotInColumn}
 
--- Not in the column, with the next disparity.
-abbrev pub not-in-column : ℕ → Refusal
-not-in-column next = record { number = 20; values = next ∷ [] }
-
+-- Not in the column comes with the next disparity.
 abbrev pub decode-refusal : DecodeRefusal → Refusal
 decode-refusal NotACharacter = plain 1
 decode-refusal DisparityAboveOne = plain 14
-decode-refusal (NotInColumn next) = not-in-column next
+decode-refusal (NotInColumn next) = record { number = 20; values = next ∷ [] }
 
 -- A character that stands for a code or for none, with the disparity after it.
 abbrev pub read-as : Option Code → ℕ → Result Decoded Refusal
 read-as (Some code) next = Ok (record { code = code; disparity = next })
-read-as None next = Err (not-in-column next)
+read-as None next = Err (decode-refusal (NotInColumn next))
 
 -- The first number that applies, or the code and the disparity after its character.
 abbrev pub decoding : ℕ → ℕ → Result Decoded Refusal
 decoding character disparity =
-    cond (ltb 1023 character) (Err (plain 1))
-    (cond (ltb 1 disparity) (Err (plain 14))
+    cond (ltb 1023 character) (Err (decode-refusal NotACharacter))
+    (cond (ltb 1 disparity) (Err (decode-refusal DisparityAboveOne))
     (read-as (decoded character disparity) (after character disparity)))
 
 -- The answer is this data byte with this disparity after it.

@@ -31,9 +31,9 @@ sent-as kind byte disparity = followed (encoded kind byte disparity) disparity
 -- The first number that applies, or the character and the disparity after it.
 abbrev pub encoding : ℕ → ℕ → ℕ → Result Encoded Refusal
 encoding kind byte disparity =
-    cond (ltb 1 kind) (Err (plain 5))
-    (cond (eqb kind 1 && not (special byte)) (Err (plain 6))
-    (cond (ltb 1 disparity) (Err (plain 14))
+    cond (ltb 1 kind) (Err (encode-refusal KindAboveOne))
+    (cond (eqb kind 1 && not (special byte)) (Err (encode-refusal NotSpecial))
+    (cond (ltb 1 disparity) (Err (encode-refusal DisparityAboveOne))
     (Ok (sent-as kind byte disparity))))
 
 -- The answer is this character with this disparity after it.

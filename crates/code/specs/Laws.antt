@@ -12,7 +12,8 @@ use Rattle.code.specs.declared.character.Code.{Code}
 use Rattle.code.specs.Bits.{bits-of, number-of, inverted}
 use Rattle.code.specs.Characters.{encoded, decoded, after, used-after, valid, unlike}
 use Rattle.code.specs.Encodings.{encoding}
-use Rattle.code.specs.Decodings.{decoding, not-in-column}
+use Rattle.code.specs.Decodings.{decoding, decode-refusal}
+use Rattle.code.specs.declared.character.decoding.DecodeRefusal.the-variants.{NotInColumn}
 
 -- Decoding undoes encoding.
 abbrev pub Decoding-undoes-encoding : Type 0
@@ -96,7 +97,7 @@ pub record Examples : Type 0 where
   pub encoded-35 : encoding 0 0x35 0 ≡ Ok (record { character = 0b1010101001; disparity = 0 })
   pub decoded-15 : decoding 0b1010101011 0 ≡ Ok (record { code = record { kind = 0; byte = 0x15 }; disparity = 1 })
   pub encoded-B7 : encoding 0 0xB7 0 ≡ Ok (record { character = 0b1110101010; disparity = 1 })
-  pub other-column : decoding 0b1110101010 1 ≡ Err (not-in-column 1)
+  pub other-column : decoding 0b1110101010 1 ≡ Err (decode-refusal (NotInColumn 1))
   pub encoded-F1 : encoding 0 0xF1 0 ≡ Ok (record { character = 0b1000110111; disparity = 1 })
   pub align-first : encoding 1 0xBC 0 ≡ Ok (record { character = 0b0011111010; disparity = 1 })
   pub align-middle : encoding 0 0x4A 1 ≡ Ok (record { character = 0b0101010101; disparity = 1 })

@@ -36,7 +36,7 @@ heard-first s capacity (bit ∷ bits) =
 -- Refused when all numbers are given, before the tap is asked.
 abbrev pub heard-from : State → Meaning → Outcome
 heard-from s tap =
-    cond (eqb (s .ledger .number) most-numbers) (record { answer = Err (plain 7); state = s; tap = tap })
+    cond (eqb (s .ledger .number) most-numbers) (record { answer = Err (hear-refusal NumbersSpent); state = s; tap = tap })
     (heard-first s (tap .capacity) (tap .waiting))
 
 -- A tap from which no bit was taken is as it was, in every field.

@@ -40,7 +40,7 @@ module _ {T : Type 0} where
       }
 
   -- where there is room, pushing is accepted
-  pub kept-pushed : (q q′ : Queue T) (x : T) (r : Result Unit (QueueRefusal T)) → 0 < room-of q → numbered queue-refusal r ≡ pushing q → Pushed q x r q′
+  pub kept-pushed : (q q′ : Queue T) (x : T) (r : Result Unit (QueueRefusal T)) → 0 < room-of q → numbered queue-refusal r ≡ pushing q x → Pushed q x r q′
     → Kept q (x ∷ []) q′
   kept-pushed q q′ x (Ok u) h a p = kept-one q q′ x p
   kept-pushed q q′ x (Err (Full y)) h a p =

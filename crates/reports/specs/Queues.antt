@@ -45,8 +45,8 @@ module _ {T : Type 0} where
   free-place q = wrap (length (memory-of q)) (start q + count-of q)
 
   -- What pushing answers.
-  abbrev pub pushing : Queue T → Result Unit Refusal
-  pushing q = cond (eqb (room-of q) 0) (Err (plain 21)) (Ok tt)
+  abbrev pub pushing : Queue T → T → Result Unit Refusal
+  pushing q x = cond (eqb (room-of q) 0) (Err (queue-refusal (Full x))) (Ok tt)
 
   -- A queue before and after one element was pushed: it joins at the end and is written to one place of memory.
   pub record Appended (before : Queue T) (x : T) (after : Queue T) : Type 0 where

@@ -76,7 +76,7 @@ impl<'a, T: Copy> Queue<'a, T> {
 
     // One element more at the end; a full queue declines.
     pub fn push(&mut self, element: T) -> Result<(), QueueRefusal<T>>
-        ensures answer { λ r. ⌜ numbered queue-refusal r ≡ pushing (now (self .entry)) ⌝ }
+        ensures answer { λ r. ⌜ numbered queue-refusal r ≡ pushing (now (self .entry)) element ⌝ }
         ensures queue { λ r. ⌜ Pushed (now (self .entry)) element r (now (self .exit)) ⌝ }
     {
         if self.room() == 0 {
