@@ -10,7 +10,7 @@ use Rattle.bringup.specs.declared.rate.RateSet.{RateSet}
 use Rattle.bringup.specs.declared.rate.Rate.the-variants.{NoRate, G1, G2, G3, G4}
 use Rattle.bringup.specs.Bringup.{signalled}
 use Rattle.bringup.specs.Rates.{supports, rate-number}
-use Rattle.agreement.specs.FairLine.{Life, Hears, Reaches, FairLine, Agreement, LivedFor, age, signs-at, Over, is-over, BothReady, BothFailed, shared, LocksInTime, present}
+use Rattle.agreement.specs.FairLine.{Life, Hears, Reaches, FairLine, Agreement, LivedFor, age, signs-at, Over, over, is-over, BothReady, BothFailed, shared, LocksInTime, present}
 use Rattle.agreement.proofs.Machine.{ears}
 use Rattle.agreement.proofs.Stages.{over-begun, begins-by, signalled-stays}
 use Rattle.agreement.proofs.Line.{detected-since, hears-cominit, hears-comsas}
@@ -91,6 +91,8 @@ module _ (delay : ℕ) (short : delay ≤ 7000) (a b : Life) (fa : Hears delay a
       opens-b = pb .opens;
       near-a = elim (pb .soonest) [ inl e ↦ omega (arith, ra, pa .others) | inr e ↦ omega (arith, rb, pa .own) ];
       near-b = elim (pa .soonest) [ inl e ↦ omega (arith, rb, pb .others) | inr e ↦ omega (arith, ra, pb .own) ];
+      new-a = pa .new;
+      new-b = pb .new;
       silent-a = pa .silent G1;
       silent-b = pb .silent G1;
     }
@@ -128,8 +130,8 @@ module _ (delay : ℕ) (short : delay ≤ 7000) (a b : Life) (fa : Hears delay a
       (λ o p. inr (elim (p .soonest) [ inl e ↦ omega arith | inr e ↦ omega arith ])) .0
 
   over-both : BothReady a b ⊎ BothFailed a b → Over a × Over b
-  over-both (inl r) = (ap is-over (r .first), ap is-over (r .second))
-  over-both (inr f) = (ap is-over (f .0), ap is-over (f .1))
+  over-both (inl r) = (ap over (r .first), ap over (r .second))
+  over-both (inr f) = (ap over (f .0), ap over (f .1))
 
   pub agreement : Agreement delay a b
   agreement = record {

@@ -10,6 +10,7 @@ use Rattle.std.proofs.shelf.Tests.{both-ways, true≢false, false≢true, cases
 use Rattle.bringup.specs.declared.end.Phase.{Phase}
 use Rattle.bringup.specs.declared.end.Phase.the-variants.{SendingComsas, Falling, Negotiating}
 use Rattle.bringup.specs.declared.rate.Rate.{Rate}
+use Rattle.bringup.specs.declared.rate.Rate.the-variants.{NoRate}
 use Rattle.bringup.specs.declared.end.Window.{Window}
 use Rattle.bringup.specs.declared.end.Sign.{Sign}
 use Rattle.bringup.specs.declared.end.Activity.the-variants.{Idle}
@@ -17,7 +18,8 @@ use Rattle.bringup.specs.declared.end.Activity.the-variants as sends
 use Rattle.bringup.specs.Detection.{passed}
 use Rattle.bringup.specs.Bringup.{signalled, no-window}
 use Rattle.bringup.specs.Asking.{activity, in-burst, sending}
-use Rattle.agreement.specs.FairLine.{Life, Hears, Reaches, state-at, age, signs-at, Over, is-over}
+use Rattle.bringup.specs.Rates.{rate-number}
+use Rattle.agreement.specs.FairLine.{Life, Hears, Reaches, state-at, rate-at, age, signs-at, Over, is-over, OpensWindow}
 use Rattle.agreement.proofs.Machine.{first-window, ears}
 use Rattle.agreement.proofs.Stages.{In, Begins, comsas-begins, comsas-stage, comsas-stays, fallen-stays, falling-stage, opens-at-once, opens-later}
 use Rattle.agreement.proofs.Line.{hearing, detected-since, hears-comsas, not-fallen-before, falls}
@@ -39,6 +41,12 @@ pub record Opened (x : Life) (c t o : ℕ) : Type 0 where
   pub soonest : (o ≡ c + 23925) ⊎ (o ≡ t + 23925)
   pub silent : (r : Rate) → SilentBefore x o r
   pub reached : o ≤ age (x .notes)
+  pub new : OpensWindow x o
+
+-- the first window's rate is the first that the end tells
+first-new : (x : Life) (v : ℕ) → rate-at x v ≡ NoRate → At x (suc v) first-window → OpensWindow x (suc v)
+first-new x v before opens =
+    (v, (refl, λ e. let z : _≡_ {A = ℕ} 0 1 = ap rate-number (sym before ∙ (e ∙ ap (λ q. q .window .rate) opens)) in omega arith))
 
 module _ (delay : ℕ) (short : delay ≤ 7000) (x y : Life) (fx : Hears delay x y) (fy : Hears delay y x) (cx cy : ℕ)
     (bx : Starts x cx) (by : Starts y cy) (sx : cx + 23925 ≤ age (x .notes)) (sy : cy + 23925 ≤ age (y .notes))
@@ -130,6 +138,9 @@ module _ (delay : ℕ) (short : delay ≤ 7000) (x y : Life) (fx : Hears delay x
             soonest = inl (omega arith);
             silent = λ r u lt ge a _. comsas-silent u (omega arith) (omega arith) a;
             reached = omega arith;
+            new = first-new x (cx + 23924)
+                (ap (λ q. q .window .rate) (comsas-stage hx (x .rates) cx no-window (comsas-begins hx (x .rates) cx bx) 23924 (omega arith)))
+                (opens-at-once hx (x .rates) cx bx f);
           },
         ))
     | inl later ↦
@@ -148,6 +159,9 @@ module _ (delay : ℕ) (short : delay ≤ 7000) (x y : Life) (fx : Hears delay x
               | inr g ↦ waiting-silent u g (omega arith) (omega arith) a
             ];
             reached = omega arith;
+            new = first-new x (cx + 23925 + j) (let (k, p) = waits j (omega arith) (omega arith) in ap (λ q. q .window .rate) (p .1))
+                (opens-later hx (x .rates) cx bx j (λ i li. not-yet (cx + 23924 + i) (omega arith) (omega arith) (omega arith))
+                (heard-by j (omega arith)) f);
           },
         ))
   ]

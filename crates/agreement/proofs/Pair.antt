@@ -98,9 +98,9 @@ module _ (delay : ℕ) (short : delay ≤ 7000) (x y : Life) (fair : Hears delay
         let ej : 314385 + (j - 314385) ≡ j = omega arith in
         let li : wx i .locked ≡ true = subst (λ z. wx z .locked ≡ true) ei (locked-stays (signs-at (x .notes)) (x .rates) ox w fresh unaligned opens-x 314385 (i - 314385) lx) in
         let lj : wy j .locked ≡ true = subst (λ z. wy z .locked ≡ true) ej (locked-stays (signs-at (y .notes)) (y .rates) oy w fresh unaligned opens-y 314385 (j - 314385) ly) in
-        let sx = window-stage (signs-at (x .notes)) (x .rates) ox w fresh unaligned opens-x i bi in (
-          ap (λ e. e .phase) sx,
-          ap (λ e. e .window .locked) sx ∙ li,
+        (
+          sends-align (signs-at (x .notes)) (x .rates) ox w fresh unaligned opens-x i (omega arith) bi li
+              (locked-since (signs-at (x .notes)) (x .rates) ox w fresh unaligned opens-x 314385 lx .1),
           sends-align (signs-at (y .notes)) (y .rates) oy w fresh unaligned opens-y j (omega arith) bj lj
               (locked-since (signs-at (y .notes)) (y .rates) oy w fresh unaligned opens-y 314385 ly .1),
           rate-y j bj ∙ sym (rate-x i bi),

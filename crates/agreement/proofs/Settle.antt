@@ -18,8 +18,8 @@ use Rattle.bringup.specs.declared.end.Sign.the-variants.{Locked}
 use Rattle.bringup.specs.declared.end.Activity.the-variants.{Idle}
 use Rattle.bringup.specs.declared.end.Activity.the-variants as sends
 use Rattle.bringup.specs.Rates.{supports, next-rate, previous-rate, past-highest, rate-number}
-use Rattle.bringup.specs.Asking.{activity}
-use Rattle.agreement.specs.FairLine.{Life, Hears, state-at, rate-at, present, present-rate, age, signs-at, Over, is-over, BothReady, BothFailed, shared, LocksInTime, has}
+use Rattle.bringup.specs.Asking.{activity, outcome-in}
+use Rattle.agreement.specs.FairLine.{Life, Hears, state-at, rate-at, present, present-rate, age, signs-at, Over, is-over, BothReady, BothFailed, shared, OpensWindow, LocksInTime, has}
 use Rattle.agreement.proofs.Stages.{In, state}
 use Rattle.agreement.proofs.Windows.{current, window-stage, open-rate, lock-noted, locked-since, fresh-window, is-align1, closes-ready, closes-failed, closes-valid, closes-back, closes-gives-up, closes-next, ready-stays, failed-stays}
 use Rattle.agreement.proofs.Pair.{At, Silent, SilentBefore, invalid-alone, valid-both-locked, both-locked-valid}
@@ -148,6 +148,8 @@ pub record Joint (delay : ℕ) (a b : Life) (oa ob : ℕ) (w : Window) : Type 0 
   pub near-b : oa + a .born ≤ ob + b .born + delay
   pub silent-a : SilentBefore a oa (w .rate)
   pub silent-b : SilentBefore b ob (w .rate)
+  pub new-a : OpensWindow a oa
+  pub new-b : OpensWindow b ob
 
 module _ (delay : ℕ) (short : delay ≤ 7000) (a b : Life) (fair-a : Hears delay a b) (fair-b : Hears delay b a) where
   module _ (oa ob : ℕ) (w : Window) (f : w .locked ≡ false) (u : w .aligned ≡ false) (j : Joint delay a b oa ob w)
@@ -181,12 +183,12 @@ module _ (delay : ℕ) (short : delay ≤ 7000) (a b : Life) (fair-a : Hears del
     shared-valid sh la lb =
         let p = and-parts (supports (a .rates) (w .rate)) (supports (b .rates) (w .rate)) sh in
         both-locked-valid delay short a b fair-a w f u oa (j .opens-a) ob (j .opens-b) (j .near-a) (j .near-b) ca cb
-        (locked a oa (j .opens-a) ca la (p .0)) (locked b ob (j .opens-b) cb lb (p .1))
+        (locked a oa (j .opens-a) (j .new-a) ca la (p .0)) (locked b ob (j .opens-b) (j .new-b) cb lb (p .1))
       where
-        locked : (x : Life) (o : ℕ) (e : At x o w) → o + 328640 ≤ age (x .notes) → LocksInTime a b x → supports (x .rates) (w .rate) ≡ true →
+        locked : (x : Life) (o : ℕ) (e : At x o w) → OpensWindow x o → o + 328640 ≤ age (x .notes) → LocksInTime a b x → supports (x .rates) (w .rate) ≡ true →
             current (signs-at (x .notes)) (x .rates) o w f u e 314385 .locked ≡ true
-        locked x o e c l sup =
-            let (k, q) = l o (ap (λ z. z .phase) e) (ap (λ z. z .elapsed) e) (ap (λ z. shared a b (z .window .rate)) e ∙ sh) c in
+        locked x o e new c l sup =
+            let (k, q) = l o new (ap (λ z. shared a b (z .window .rate)) e ∙ sh) c in
             let z : o + 960 + k ≡ suc (o + (959 + k)) = omega arith in
             locked-since (signs-at (x .notes)) (x .rates) o w f u e (suc (959 + k))
             (lock-noted (signs-at (x .notes)) (x .rates) o w f u e (959 + k) sup (omega arith) (omega (arith, q .0))
@@ -202,6 +204,8 @@ module _ (delay : ℕ) (short : delay ≤ 7000) (a b : Life) (fair-a : Hears del
       near-b = omega (arith, j .near-b);
       silent-a = λ t lt ge _ q. other (sym (window-rate a oa w f u (j .opens-a) t lt ge) ∙ q);
       silent-b = λ t lt ge _ q. other (sym (window-rate b ob w f u (j .opens-b) t lt ge) ∙ q);
+      new-a = (oa + 328639, (omega arith, λ q. other (sym (window-rate a oa w f u (j .opens-a) (oa + 328639) (omega arith) (omega arith)) ∙ (q ∙ ap (λ z. z .window .rate) ea))));
+      new-b = (ob + 328639, (omega arith, λ q. other (sym (window-rate b ob w f u (j .opens-b) (ob + 328639) (omega arith) (omega arith)) ∙ (q ∙ ap (λ z. z .window .rate) eb))));
     }
 
 -- Rates in their order
@@ -262,7 +266,7 @@ module _ (delay : ℕ) (short : delay ≤ 7000) (a b : Life) (fair-a : Hears del
   Result hope = (BothReady a b ⊎ BothFailed a b) × (hope → BothReady a b)
 
   both-failed : {hope : Type 0} → present a .phase ≡ Failed → present b .phase ≡ Failed → (hope → ⊥) → Result hope
-  both-failed p q never = (inr (p, q), λ h. absurd (never h))
+  both-failed p q never = (inr (ap outcome-in p, ap outcome-in q), λ h. absurd (never h))
 
   -- the last window
   settle-last : (r : Rate) (oa ob : ℕ) → Joint delay a b oa ob (fresh-window r true false) → Lasting a oa 1 → Lasting b ob 1 →
@@ -280,8 +284,8 @@ module _ (delay : ℕ) (short : delay ≤ 7000) (a b : Life) (fair-a : Hears del
             let qa : present-rate a ≡ r = ra .1 ∙ open-rate (signs-at (a .notes)) (a .rates) oa w refl refl (j .opens-a) 328639 in
             let qb : present-rate b ≡ r = rb .1 ∙ open-rate (signs-at (b .notes)) (b .rates) ob w refl refl (j .opens-b) 328639 in
             let ready : BothReady a b = record {
-              first = ra .0;
-              second = rb .0;
+              first = ap outcome-in (ra .0);
+              second = ap outcome-in (rb .0);
               one-rate = qa ∙ sym qb;
               supported-first = ap (supports (a .rates)) qa ∙ p .2;
               supported-second = ap (supports (b .rates)) qb ∙ p .3;

@@ -12,12 +12,14 @@ use Rattle.bringup.specs.declared.rate.RateSet.{RateSet}
 use Rattle.bringup.specs.declared.end.End.{End}
 use Rattle.bringup.specs.declared.end.Sign.{Sign}
 use Rattle.bringup.specs.declared.end.Sign.the-variants.{Nothing, BurstStarts, BurstEnds, Locked, Align1}
+use Rattle.bringup.specs.declared.end.Outcome.{Outcome}
+use Rattle.bringup.specs.declared.end.Outcome.the-variants as outcome
 use Rattle.bringup.specs.declared.end.Activity.{Activity}
 use Rattle.bringup.specs.declared.end.Activity.the-variants.{Idle, Burst}
 use Rattle.bringup.specs.declared.end.Activity.the-variants as sends
 use Rattle.bringup.specs.Bringup.{starting, noting, is-unstarted, signed, tick, sign-at, begun, unused}
 use Rattle.bringup.specs.Rates.{supports, rate-set}
-use Rattle.bringup.specs.Asking.{activity}
+use Rattle.bringup.specs.Asking.{activity, outcome-in}
 
 -- An end after a start, and after a note, declined or not.
 abbrev pub started : ℕ → End → End
@@ -121,11 +123,10 @@ rate-at s t = state-at s t .window .rate
 abbrev pub Reaches : ℕ → Life → Life → ℕ → ℕ → Type 0
 Reaches delay hearer other t u = t + hearer .born ≡ u + other .born + delay
 
--- the hearer has locked in its window, and the other's ALIGN(1) arrives at its rate
+-- the hearer is locked, which shows by the ALIGN(1) that it sends, and the other's ALIGN(1) arrives at its rate
 abbrev pub Receiving : Life → Life → ℕ → ℕ → Type 0
 Receiving hearer other t u =
-    (state-at hearer t .phase ≡ Negotiating) × (state-at hearer t .window .locked ≡ true)
-    × (activity (state-at other u) ≡ sends.Align1) × (rate-at other u ≡ rate-at hearer t)
+    (activity (state-at hearer t) ≡ sends.Align1) × (activity (state-at other u) ≡ sends.Align1) × (rate-at other u ≡ rate-at hearer t)
 
 -- What a fair line brings to one end of what the other sends.
 pub record Hears (delay : ℕ) (hearer other : Life) : Type 0 where
@@ -149,40 +150,46 @@ FairLine delay a b = (delay ≤ 7000) × Hears delay a b × Hears delay b a
 
 -- Outcomes
 
+-- an end that is ready or failed
+abbrev pub over : Outcome → Bool
+over outcome.Pending = false
+over outcome.Ready = true
+over outcome.Failed = true
+
 abbrev pub is-over : Phase → Bool
-is-over Phase.Unstarted = false
-is-over Phase.SendingCominit = false
-is-over Phase.Awaiting = false
-is-over Phase.SendingComsas = false
-is-over Phase.Falling = false
-is-over Phase.Negotiating = false
-is-over Phase.Ready = true
-is-over Phase.Failed = true
+is-over p = over (outcome-in p)
+
+-- what an end's outcome is at the end of a life
+abbrev pub outcome-of : Life → Outcome
+outcome-of s = outcome-in (present s .phase)
 
 -- ready or failed
 abbrev pub Over : Life → Type 0
-Over s = is-over (present s .phase) ≡ true
+Over s = over (outcome-of s) ≡ true
 
 abbrev pub present-rate : Life → Rate
 present-rate s = present s .window .rate
 
 pub record BothReady (a b : Life) : Type 0 where
-  pub first : present a .phase ≡ Ready
-  pub second : present b .phase ≡ Ready
+  pub first : outcome-of a ≡ outcome.Ready
+  pub second : outcome-of b ≡ outcome.Ready
   pub one-rate : present-rate a ≡ present-rate b
   pub supported-first : supports (a .rates) (present-rate a) ≡ true
   pub supported-second : supports (b .rates) (present-rate b) ≡ true
 
 abbrev pub BothFailed : Life → Life → Type 0
-BothFailed a b = (present a .phase ≡ Failed) × (present b .phase ≡ Failed)
+BothFailed a b = (outcome-of a ≡ outcome.Failed) × (outcome-of b ≡ outcome.Failed)
 
 abbrev pub shared : Life → Life → Rate → Bool
 shared a b r = supports (a .rates) r && supports (b .rates) r
 
--- in each of its closed windows at a rate that both support, s notes a lock at most 313425 ticks into the second part
+-- a window opens at tick t: the rate that the end tells changes
+abbrev pub OpensWindow : Life → ℕ → Type 0
+OpensWindow s t = (before : ℕ) × ((t ≡ suc before) × (rate-at s before ≡ rate-at s t → ⊥))
+
+-- in each of its closed windows at a rate that both support, s notes a lock at most 313,425 ticks into the second part
 abbrev pub LocksInTime : Life → Life → Life → Type 0
-LocksInTime a b s = (w : ℕ) → state-at s w .phase ≡ Negotiating → state-at s w .elapsed ≡ 0 → shared a b (rate-at s w) ≡ true →
-    w + 328640 ≤ age (s .notes) → (k : ℕ) × ((k ≤ 313425) × Notes s Locked (w + 960 + k))
+LocksInTime a b s = (w : ℕ) → OpensWindow s w → shared a b (rate-at s w) ≡ true → w + (960 + 327680) ≤ age (s .notes) → (k : ℕ) × ((k ≤ 313425) × Notes s Locked (w + 960 + k))
 
 -- both have lived for n ticks since the later start
 abbrev pub LivedFor : ℕ → Life → Life → Type 0
