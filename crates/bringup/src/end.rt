@@ -5,6 +5,7 @@ use crate::rate::RateSet;
 
 pub mod noting;
 pub mod asking;
+pub mod examples;
 
 #[derive(Clone, Copy)]
 pub enum Phase {
