@@ -48,21 +48,25 @@ module _ (delay : ℕ) (short : delay ≤ 7000) (x y : Life) (fx : Hears delay x
       (hears-comsas delay y x fy c t starts r (omega arith) (omega arith))) in
       (d, (omega (arith, p .0), p .1))
 
+  -- and begins its own, soon after
   later-after : (c : ℕ) → Starts x c → c + x .born ≤ y .born + 13080 → (d : ℕ) × ((d + y .born ≤ y .born + 35760) × Starts y d)
   later-after c starts bound =
       let (u, q) = detected-since delay x y fx c (omega arith) (omega arith) (starts .detected) in
       later-at c (c + x .born + delay - y .born) starts bound (omega (arith, q .0))
 
+  -- so both begin
   meets-after : (c : ℕ) → Starts x c → c + x .born ≤ y .born + 13080 → Meets x y
   meets-after c starts bound =
       let (d, p) = later-after c starts bound in
       record { cx = c; cy = d; starts-x = starts; starts-y = p .1; by-x = omega arith; by-y = omega (arith, p .0) }
 
+  -- the earlier starter begins, and then the later one
   meets : Meets x y
   meets =
       let (c, p) = earlier-at (959 + y .born + delay - x .born) (omega arith) in
       meets-after c (p .1) (p .0)
 
+-- a supported rate has a number from 1 on
 supported-positive : (s : RateSet) (r : Rate) → supports s r ≡ true → 1 ≤ rate-number r
 supported-positive s NoRate e = absurd (false≢true e)
 supported-positive s G1 e = omega arith
@@ -73,18 +77,22 @@ supported-positive s G4 e = omega arith
 module _ (delay : ℕ) (short : delay ≤ 7000) (a b : Life) (fa : Hears delay a b) (fb : Hears delay b a) where
   -- from both COMSAS to the outcome
   module _ (ca cb : ℕ) (ba : Starts a ca) (bb : Starts b cb) (sa : ca + 23925 ≤ age (a .notes)) (sb : cb + 23925 ≤ age (b .notes)) where
+    -- when the COMSAS of b begins to arrive at a
     abbrev ta : ℕ
     ta = cb + b .born + delay - a .born
 
+    -- and that of a at b
     abbrev tb : ℕ
     tb = ca + a .born + delay - b .born
 
+    -- those are the ticks in which they arrive
     ra : Reaches delay a b ta cb
     ra = let (u, q) = detected-since delay b a fb cb (omega arith) (omega arith) (bb .detected) in omega (arith, q .0)
 
     rb : Reaches delay b a tb ca
     rb = let (u, q) = detected-since delay a b fa ca (omega arith) (omega arith) (ba .detected) in omega (arith, q .0)
 
+    -- the first windows open within the delay of one another
     joint : (oa ob : ℕ) → Opened a ca ta oa → Opened b cb tb ob → Joint delay a b oa ob (fresh-window G1 false false)
     joint oa ob pa pb = record {
       opens-a = pa .opens;
@@ -97,6 +105,7 @@ module _ (delay : ℕ) (short : delay ≤ 7000) (a b : Life) (fa : Hears delay a
       silent-b = pb .silent G1;
     }
 
+    -- so the two come to one outcome
     pub outcome : ta + 23925 ≤ age (a .notes) → tb + 23925 ≤ age (b .notes) →
         ((o : ℕ) → Opened a ca ta o → Over a ⊎ (o + 5 * 328640 ≤ age (a .notes))) →
         ((o : ℕ) → Opened b cb tb o → Over b ⊎ (o + 5 * 328640 ≤ age (b .notes))) →
@@ -107,6 +116,7 @@ module _ (delay : ℕ) (short : delay ≤ 7000) (a b : Life) (fa : Hears delay a
         settle delay short a b fa fb 3 G1 false oa ob (joint oa ob pa pb) (omega arith) (omega arith) (λ _. (tt, tt))
         (pa .reached, over-a oa pa) (pb .reached, over-b ob pb)
 
+  -- ends that are over have lived long enough for that
   both-over : Over a → Over b → Result delay short a b fa fb (Hope delay short a b fa fb G1 false)
   both-over over-a over-b =
       let (ca, pa) = over-begun (signs-at (a .notes)) (a .rates) (age (a .notes)) over-a in
@@ -118,6 +128,7 @@ module _ (delay : ℕ) (short : delay ≤ 7000) (a b : Life) (fa : Hears delay a
       (rb ca cb (pa .1) (pb .1) (pa .0) (pb .0)) (ra ca cb (pa .1) (pb .1) (pa .0) (pb .0)) over-b)
       (λ _ _. inl over-a) (λ _ _. inl over-b)
 
+  -- both lived long enough by the clock
   both-met : (ca cb : ℕ) → Starts a ca → Starts b cb → ca + a .born ≤ max (a .born) (b .born) + 35760 → cb + b .born ≤ max (a .born) (b .born) + 35760 →
       LivedFor 1709885 a b → BothReady a b ⊎ BothFailed a b
   both-met ca cb ba bb la lb lived =
@@ -129,10 +140,12 @@ module _ (delay : ℕ) (short : delay ≤ 7000) (a b : Life) (fa : Hears delay a
       (λ o p. inr (elim (p .soonest) [ inl e ↦ omega arith | inr e ↦ omega arith ]))
       (λ o p. inr (elim (p .soonest) [ inl e ↦ omega arith | inr e ↦ omega arith ])) .0
 
+  -- one outcome is the end of both
   over-both : BothReady a b ⊎ BothFailed a b → Over a × Over b
   over-both (inl r) = (ap over (r .first), ap over (r .second))
   over-both (inr f) = (ap over (f .0), ap over (f .1))
 
+  -- the law for two lives
   pub agreement : Agreement delay a b
   agreement = record {
     ends = λ lived. over-both (elim (cases-lt (b .born) (a .born)) [

@@ -26,32 +26,40 @@ abbrev replay : List Note → End → End
 replay [] e = e
 replay (n ∷ ns) e = replay ns (signed (n .sign) (ticks (n .ticks) e))
 
+-- one more note at the end of a list
 replay-more : (ns : List Note) (n : Note) (e : End) → replay (ns ++ (n ∷ [])) e ≡ signed (n .sign) (ticks (n .ticks) (replay ns e))
 replay-more [] n e = refl
 replay-more (m ∷ ns) n e = replay-more ns n (signed (m .sign) (ticks (m .ticks) e))
 
+-- the two halves of the definition of after
 after-zero : (h : ℕ → List Sign) (e : End) → after h e 0 ≡ all-signed (h 0) e
 unfolding after
 after-zero h e = refl
 
+-- each tick passes and then its signs follow
 after-suc : (h : ℕ → List Sign) (e : End) (t : ℕ) → after h e (suc t) ≡ all-signed (h (suc t)) (tick (after h e t))
 unfolding after
 after-suc h e t = refl
 
 module _ (n : Note) (ns : List Note) (e : End) where
+  -- the signs by their ticks, with a note ahead of the others
   abbrev h : ℕ → List Sign
   h = signs-at (n ∷ ns)
 
+  -- the end after that note
   abbrev next : End
   next = signed (n .sign) (ticks (n .ticks) e)
 
+  -- before its tick there are none
   h-before : (t : ℕ) → t < n .ticks → h t ≡ []
   h-before t lt = cond-true (ltb t (n .ticks)) [] (cond (eqb t (n .ticks)) (n .sign ∷ signs-at ns 0) (signs-at ns (t - n .ticks))) (lt-ltb t (n .ticks) lt)
 
+  -- at its tick it comes first
   h-at : h (n .ticks) ≡ n .sign ∷ signs-at ns 0
   h-at = cond-false (ltb (n .ticks) (n .ticks)) [] (cond (eqb (n .ticks) (n .ticks)) (n .sign ∷ signs-at ns 0) (signs-at ns (n .ticks - n .ticks))) (le-ltb (n .ticks) (n .ticks) (omega arith))
       ∙ cond-true (eqb (n .ticks) (n .ticks)) (n .sign ∷ signs-at ns 0) (signs-at ns (n .ticks - n .ticks)) (eq-eqb (n .ticks) (n .ticks) refl)
 
+  -- later the others follow
   h-after : (j : ℕ) → h (suc (n .ticks + j)) ≡ signs-at ns (suc j)
   h-after j =
       let t : ℕ = suc (n .ticks + j) in
@@ -59,21 +67,25 @@ module _ (n : Note) (ns : List Note) (e : End) where
       ∙ cond-false (eqb t (n .ticks)) (n .sign ∷ signs-at ns 0) (signs-at ns (t - n .ticks)) (ne-eqb t (n .ticks) (λ q. omega arith))
       ∙ ap (signs-at ns) (let z : t - n .ticks ≡ suc j = omega arith in z)
 
+  -- so until its tick only time passes
   before : (t : ℕ) → t < n .ticks → after h e t ≡ ticks t e
   before zero lt = after-zero h e ∙ ap (λ gs. all-signed gs e) (h-before 0 lt)
   before (suc t) lt = after-suc h e t ∙ ap (λ gs. all-signed gs (tick (after h e t))) (h-before (suc t) lt) ∙ ap tick (before t (omega arith))
 
+  -- then its sign follows, and those of the same tick
   at-sign : (k : ℕ) → n .ticks ≡ k → after h e k ≡ all-signed (signs-at ns 0) (signed (n .sign) (ticks k e))
   at-sign zero q = after-zero h e ∙ ap (λ gs. all-signed gs e) (ap h (sym q) ∙ h-at)
   at-sign (suc k) q = after-suc h e k ∙ ap (λ gs. all-signed gs (tick (after h e k))) (ap h (sym q) ∙ h-at)
       ∙ ap (λ z. all-signed (n .sign ∷ signs-at ns 0) (tick z)) (before k (omega arith))
 
+  -- and the rest goes on from there
   later : (j : ℕ) → after h e (n .ticks + j) ≡ after (signs-at ns) next j
   later zero = ap (after h e) (add-zero (n .ticks)) ∙ at-sign (n .ticks) refl ∙ sym (after-zero (signs-at ns) next)
   later (suc j) = ap (after h e) (add-suc (n .ticks) j) ∙ after-suc h e (n .ticks + j)
       ∙ ap (λ gs. all-signed gs (tick (after h e (n .ticks + j)))) (h-after j)
       ∙ ap (λ z. all-signed (signs-at ns (suc j)) (tick z)) (later j) ∙ sym (after-suc (signs-at ns) next j)
 
+-- so the calls one by one and the life by its ticks end alike
 replayed : (ns : List Note) (e : End) → after (signs-at ns) e (age ns) ≡ replay ns e
 replayed [] e = after-zero (signs-at []) e
 replayed (n ∷ ns) e = later n ns e (age ns) ∙ replayed ns (signed (n .sign) (ticks (n .ticks) e))
@@ -83,6 +95,7 @@ pub record Keeps (e f : End) : Type 0 where
   pub rates : f .rates ≡ e .rates
   pub still : is-unstarted (e .phase) ≡ false → is-unstarted (f .phase) ≡ false
 
+-- transitions keep the rate set
 tick-rates : (p : Phase) (e : End) → settled p e .rates ≡ e .rates
 tick-rates Unstarted e = refl
 tick-rates SendingCominit e = grind (arith, tells)
@@ -93,6 +106,7 @@ tick-rates Negotiating e = grind (arith, tells)
 tick-rates Ready e = refl
 tick-rates Failed e = refl
 
+-- and no end becomes unstarted again
 tick-started : (p : Phase) (e : End) → e .phase ≡ p → is-unstarted p ≡ false → is-unstarted (settled p e .phase) ≡ false
 tick-started Unstarted e q h = absurd (true≢false h)
 tick-started SendingCominit e q h = grind (arith, tells)
@@ -103,6 +117,7 @@ tick-started Negotiating e q h = grind (arith, tells)
 tick-started Ready e q h = ap is-unstarted q
 tick-started Failed e q h = ap is-unstarted q
 
+-- so do ticks
 keeps-ticks : (k : ℕ) (e : End) → Keeps e (ticks k e)
 keeps-ticks zero e = record { rates = refl; still = λ h. h }
 keeps-ticks (suc k) e =
@@ -112,6 +127,7 @@ keeps-ticks (suc k) e =
       still = λ h. tick-started (ticks k e .phase) (aged (ticks k e)) refl (ih .still h);
     }
 
+-- and signs
 keeps-sign : (g : Sign) (e : End) → Keeps e (signed g e)
 keeps-sign Nothing e = record { rates = refl; still = λ h. h }
 keeps-sign BurstStarts e = record { rates = grind (arith, tells); still = λ h. grind (arith, tells) }
@@ -125,29 +141,36 @@ pub record Running (c : Course) (s : RateSet) : Type 0 where
   pub by-notes : c .state ≡ replay (c .accepted) (begun s)
   pub rates : c .state .rates ≡ s
 
+-- the end is what its life says, or was never started
 abbrev Tracked : Course → Type 0
 Tracked c = ((is-unstarted (c .state .phase) ≡ true) × (c .accepted ≡ [])) ⊎ ((s : RateSet) × Running c s)
 
 -- ---- what a call leaves, by the first test that applies
 
+-- whether a rate set is refused
 abbrev outside : ℕ → Bool
 outside n = eqb n 0 || ltb 7 n
 
+-- the end that a call leaves
 abbrev left : Called → End
 left x = x .end
 
+-- a refused rate set leaves the end
 start-outside : (n : ℕ) (e : End) → outside n ≡ true → started n e ≡ e
 start-outside n e o = ap left (cond-true (outside n) (declined (plain 8) e) (cond (is-unstarted (e .phase)) (done (begun (rate-set n))) (declined (plain 9) e)) o)
 
+-- any other starts it unless it was started
 start-inside : (n : ℕ) (e : End) → outside n ≡ false → started n e ≡ left (cond (is-unstarted (e .phase)) (done (begun (rate-set n))) (declined (plain 9) e))
 start-inside n e o = ap left (cond-false (outside n) (declined (plain 8) e) (cond (is-unstarted (e .phase)) (done (begun (rate-set n))) (declined (plain 9) e)) o)
 
+-- a second start leaves the end
 start-again : (n : ℕ) (e : End) → is-unstarted (e .phase) ≡ false → started n e ≡ e
 start-again n e u = elim (cases-bool (outside n)) [
   | inl o ↦ start-outside n e o
   | inr o ↦ start-inside n e o ∙ ap left (cond-false (is-unstarted (e .phase)) (done (begun (rate-set n))) (declined (plain 9) e) u)
 ]
 
+-- the first one begins its life
 start-first : (n : ℕ) (e : End) → outside n ≡ false → is-unstarted (e .phase) ≡ true → started n e ≡ begun (rate-set n)
 start-first n e o u = start-inside n e o ∙ ap left (cond-true (is-unstarted (e .phase)) (done (begun (rate-set n))) (declined (plain 9) e) u)
 
@@ -158,11 +181,13 @@ note-by false true u e f = refl
 note-by false false true e f = refl
 note-by false false false e f = refl
 
+-- an accepted note changes the end, a declined one leaves it
 note-leaves : (k g : ℕ) (e : End) → noted k g e ≡ cond (note-accepted k g e) (signed (sign-at g) (ticks k e)) e
 note-leaves k g e = note-by (ltb 400000 k) (ltb 4 g) (is-unstarted (e .phase)) e (signed (sign-at g) (ticks k e))
 
 -- ---- courses
 
+-- a start keeps the end and its life together
 start-tracked : (n : ℕ) (c : Course) → Tracked c → Tracked (start-one n c)
 start-tracked n c (inr p) =
     let q : start-one n c ≡ c = ap (λ e. record { state = e; accepted = c .accepted }) (start-again n (c .state) (p .1 .is-started)) in
@@ -175,6 +200,7 @@ start-tracked n c (inl p) = elim (cases-bool (outside n)) [
       subst Tracked (sym q) (inr (rate-set n, record { is-started = refl; by-notes = refl; rates = refl })))
 ]
 
+-- so does a note, accepted or not
 note-tracked-by : (k g : ℕ) (c : Course) (b : Bool) → note-accepted k g (c .state) ≡ b → (b ≡ true → is-unstarted (c .state .phase) ≡ false)
     → Tracked c → Tracked (note-one k g c)
 note-tracked-by k g c false a u t =
@@ -211,9 +237,11 @@ note-tracked : (k g : ℕ) (c : Course) → Tracked c → Tracked (note-one k g 
 note-tracked k g c t =
     note-tracked-by k g c (note-accepted k g (c .state)) refl (accepted-started (ltb 400000 k) (ltb 4 g) (is-unstarted (c .state .phase))) t
 
+-- of both ends
 BothTracked : Courses → Type 0
 BothTracked c = Tracked (c .first) × Tracked (c .second)
 
+-- a call on one leaves the other
 call-tracked : (x : Call) (c : Courses) → BothTracked c → BothTracked (called x c)
 unfolding BothTracked
 call-tracked (start here n) c t = (start-tracked n (c .first) (t .0), t .1)
@@ -221,6 +249,7 @@ call-tracked (start there n) c t = (t .0, start-tracked n (c .second) (t .1))
 call-tracked (note here k g) c t = (note-tracked k g (c .first) (t .0), t .1)
 call-tracked (note there k g) c t = (t .0, note-tracked k g (c .second) (t .1))
 
+-- so it holds of all lists of calls
 calls-tracked : (xs : List Call) (c : Courses) → BothTracked c → BothTracked (all-called xs c)
 calls-tracked [] c t = t
 calls-tracked (x ∷ xs) c t = calls-tracked xs (called x c) (call-tracked x c t)
@@ -231,6 +260,7 @@ present-is born c (inl p) e = absurd (both-ways (is-unstarted (c .state .phase))
 present-is born c (inr p) e =
     replayed (c .accepted) (begun (c .state .rates)) ∙ ap (λ s. replay (c .accepted) (begun s)) (p .1 .rates) ∙ sym (p .1 .by-notes)
 
+-- the law over lists of calls
 pub fair-lines-agree : FairLinesAgree
 unfolding BothTracked
 fair-lines-agree calls delay first second =

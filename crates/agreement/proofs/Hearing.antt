@@ -33,12 +33,15 @@ heard-quiet (BurstEnds ∷ gs) d a b = absurd (true≢false b)
 heard-quiet (Locked ∷ gs) d a b = heard-quiet gs d a b
 heard-quiet (Align1 ∷ gs) d a b = heard-quiet gs d a b
 
+-- after a start a burst is heard
 pub risen-burst : (d : Detector) → risen d .burst ≡ true
 risen-burst d = grind (arith, tells)
 
+-- a start within a burst is nothing
 pub risen-in-burst : (d : Detector) → d .burst ≡ true → risen d ≡ d
 risen-in-burst d e = cond-true (d .burst) d (closed (signal-of (d .idle)) (alike-after (signal-of (d .idle)) (d .signal) (d .alike)) d) e
 
+-- in a burst nothing but its end changes anything
 pub heard-in-burst : (gs : List Sign) (d : Detector) → d .burst ≡ true → has BurstEnds gs ≡ false → heard gs d ≡ d
 heard-in-burst [] d a b = refl
 heard-in-burst (Nothing ∷ gs) d a b = heard-in-burst gs d a b
@@ -47,6 +50,7 @@ heard-in-burst (BurstEnds ∷ gs) d a b = absurd (true≢false b)
 heard-in-burst (Locked ∷ gs) d a b = heard-in-burst gs d a b
 heard-in-burst (Align1 ∷ gs) d a b = heard-in-burst gs d a b
 
+-- signs with a start and no end come to one start
 pub heard-start : (gs : List Sign) (d : Detector) → has BurstStarts gs ≡ true → has BurstEnds gs ≡ false → heard gs d ≡ risen d
 heard-start [] d a b = absurd (false≢true a)
 heard-start (Nothing ∷ gs) d a b = heard-start gs d a b
@@ -55,6 +59,7 @@ heard-start (BurstEnds ∷ gs) d a b = absurd (true≢false b)
 heard-start (Locked ∷ gs) d a b = heard-start gs d a b
 heard-start (Align1 ∷ gs) d a b = heard-start gs d a b
 
+-- after an end, signs without a start change nothing
 heard-ceased : (gs : List Sign) (d : Detector) → has BurstStarts gs ≡ false → heard gs (ceased d) ≡ ceased d
 heard-ceased [] d a = refl
 heard-ceased (Nothing ∷ gs) d a = heard-ceased gs d a
@@ -63,6 +68,7 @@ heard-ceased (BurstEnds ∷ gs) d a = heard-ceased gs d a
 heard-ceased (Locked ∷ gs) d a = heard-ceased gs d a
 heard-ceased (Align1 ∷ gs) d a = heard-ceased gs d a
 
+-- signs with an end and no start come to one end
 pub heard-end : (gs : List Sign) (d : Detector) → has BurstStarts gs ≡ false → has BurstEnds gs ≡ true → heard gs d ≡ ceased d
 heard-end [] d a b = absurd (false≢true b)
 heard-end (Nothing ∷ gs) d a b = heard-end gs d a b
@@ -83,14 +89,17 @@ unfoldable pub relay : (ℕ → Bool) → Detector → ℕ → Detector
 relay b d zero = d
 relay b d (suc j) = hear (b j) (b (suc j)) (passed (relay b d j))
 
+-- the two halves of the definition of relay
 pub relay-zero : (b : ℕ → Bool) (d : Detector) → relay b d 0 ≡ d
 unfolding relay
 relay-zero b d = refl
 
+-- each tick passes and then its edge is heard
 pub relay-suc : (b : ℕ → Bool) (d : Detector) (j : ℕ) → relay b d (suc j) ≡ hear (b j) (b (suc j)) (passed (relay b d j))
 unfolding relay
 relay-suc b d j = refl
 
+-- one tick more, with what is known of its edge
 pub relay-step : (b : ℕ → Bool) (d e : Detector) (j : ℕ) (x y : Bool) → b j ≡ x → b (suc j) ≡ y → relay b d j ≡ e →
     relay b d (suc j) ≡ hear x y (passed e)
 relay-step b d e j x y p q r =
@@ -104,9 +113,11 @@ hear-fallen false true d = grind (arith, tells)
 hear-fallen true false d = refl
 hear-fallen true true d = refl
 
+-- bursts seen from a later tick on
 abbrev pub shift : ℕ → (ℕ → Bool) → ℕ → Bool
 shift j b i = b (j + i)
 
+-- a long hearing is a hearing and then another from there
 pub relay-split : (b : ℕ → Bool) (d : Detector) (j k : ℕ) → relay b d (j + k) ≡ relay (shift j b) (relay b d j) k
 relay-split b d j zero = rw (add-zero j) (sym (relay-zero (shift j b) (relay b d j)))
 relay-split b d j (suc k) =
@@ -125,21 +136,25 @@ idled n d = record {
   fallen = d .fallen;
 }
 
+-- in a burst a tick changes nothing
 pub passed-burst : (d : Detector) → d .burst ≡ true → passed d ≡ d
 passed-burst d e = rw e
 
+-- in an idle a tick lengthens it
 pub passed-idle : (n : ℕ) (d : Detector) → d .burst ≡ false → suc n < 4725 → passed (idled n d) ≡ idled (suc n) d
 passed-idle n d e lt =
     let a : longer n ≡ suc n = cond-true (ltb n 4725) (n + 1) n (lt-ltb n 4725 (omega arith)) ∙ add-one n in
     let c : leb 4725 (suc n) ≡ false = lt-leb 4725 (suc n) lt in
     rw (e, a, c, and-right (d .comsas) false refl)
 
+-- a burst that goes on leaves the detector as it is
 pub stay-burst : (b : ℕ → Bool) (d : Detector) → d .burst ≡ true → (k : ℕ) → ((i : ℕ) → i ≤ k → b i ≡ true) → relay b d k ≡ d
 stay-burst b d e zero h = relay-zero b d
 stay-burst b d e (suc k) h =
     relay-step b d d k true true (h k (omega arith)) (h (suc k) (omega arith)) (stay-burst b d e k (λ i le. h i (omega arith)))
     ∙ passed-burst d e
 
+-- an idle that goes on is counted
 pub stay-idle : (b : ℕ → Bool) (d : Detector) (n : ℕ) → d .burst ≡ false → (k : ℕ) → ((i : ℕ) → i ≤ k → b i ≡ false) →
     n + k < 4725 → relay b (idled n d) k ≡ idled (n + k) d
 stay-idle b d n e zero h lt = relay-zero b (idled n d) ∙ ap (λ z. idled z d) (sym (add-zero n))
@@ -172,16 +187,19 @@ unfoldable pub periods : ℕ → ℕ → Detector → Detector
 periods m zero d = d
 periods m (suc k) d = period m (periods m k d)
 
+-- each period ends in a burst
 pub periods-burst : (m k : ℕ) (d : Detector) → d .burst ≡ true → periods m k d .burst ≡ true
 unfolding periods
 periods-burst m zero d e = e
 periods-burst m (suc k) d e = refl
 
+-- periods do not let COMSAS fall
 pub periods-fallen : (m k : ℕ) (d : Detector) → periods m k d .fallen ≡ d .fallen
 unfolding periods
 periods-fallen m zero d = refl
 periods-fallen m (suc k) d = periods-fallen m k d
 
+-- one more like idle counts, up to four
 pub more-grows : (a n : ℕ) → a ≤ n → a < 4 → suc a ≤ more n
 more-grows a n le lt = grind (arith, tells)
 
@@ -192,21 +210,25 @@ comsas-alike (Some Comwake) n = omega arith
 comsas-alike (Some Cominit) n = omega arith
 comsas-alike (Some Comsas) n = grind (arith, tells)
 
+-- an idle of COMINIT is at least the first of its row
 pub cominit-alike : (k : Option Signal) (n : ℕ) → 1 ≤ alike-after (Some Cominit) k n
 cominit-alike None n = omega arith
 cominit-alike (Some Comwake) n = omega arith
 cominit-alike (Some Cominit) n = grind (arith, tells)
 cominit-alike (Some Comsas) n = omega arith
 
+-- three more after one are four
 four : (n : ℕ) → 1 ≤ n → leb 4 (more (more (more n))) ≡ true
 four n h = le-leb 4 (more (more (more n)))
     (more-grows 3 (more (more n)) (more-grows 2 (more n) (more-grows 1 n h (omega arith)) (omega arith)) (omega arith))
 
+-- four periods of COMSAS detect it, whatever came before
 pub comsas-detected : (d : Detector) → periods 2879 4 d .comsas ≡ true
 unfolding periods
 comsas-detected d = let f : leb 4 (more (more (more (alike-after (Some Comsas) (d .signal) (d .alike))))) ≡ true = four (alike-after (Some Comsas) (d .signal) (d .alike)) (comsas-alike (d .signal) (d .alike)) in
     rw f
 
+-- four periods of COMINIT detect it, whatever came before
 pub cominit-detected : (d : Detector) → periods 959 4 d .cominit ≡ true
 unfolding periods
 cominit-detected d = let f : leb 4 (more (more (more (alike-after (Some Cominit) (d .signal) (d .alike))))) ≡ true = four (alike-after (Some Cominit) (d .signal) (d .alike)) (cominit-alike (d .signal) (d .alike)) in

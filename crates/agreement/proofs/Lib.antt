@@ -5,6 +5,7 @@ pub mod Stages
 pub mod Line
 pub mod Windows
 pub mod Pair
+pub mod RateOrder
 pub mod Settle
 pub mod Meeting
 pub mod Agreement

@@ -26,6 +26,7 @@ use Rattle.agreement.proofs.Trains.{Early, early-lasts, cominit-heard, comsas-
 abbrev pub soundless : Bool → Detector
 soundless b = record { idle = 0; burst = b; signal = None; alike = 0; cominit = false; comsas = false; fallen = false }
 
+-- signs without burst edges leave a detector as it is
 pub soundless-heard : (gs : List Sign) (b : Bool) →
     (x : Bool) × ((heard gs (soundless b) ≡ soundless x) × (x ≡ true → b ≡ false → has BurstStarts gs ≡ true))
 soundless-heard [] b = (b, (refl, λ p q. absurd (both-ways b q p)))
@@ -40,9 +41,11 @@ soundless-heard (Locked ∷ gs) b = soundless-heard gs b
 soundless-heard (Align1 ∷ gs) b = soundless-heard gs b
 
 module _ (delay : ℕ) (hearer other : Life) (fair : Hears delay hearer other) where
+  -- the hearer's signs in a tick
   abbrev signs : ℕ → List Sign
   signs = signs-at (hearer .notes)
 
+  -- its detector after a tick
   abbrev pub hearing : ℕ → Detector
   hearing t = ears signs t
 
@@ -53,15 +56,18 @@ module _ (delay : ℕ) (hearer other : Life) (fair : Hears delay hearer other) w
       let e : v ≡ u = omega (arith, p .0) in
       subst (StartsBurst other) e (p .1)
 
+  -- a noted end of a burst is one that the other sent the delay before
   end-noted : (t u : ℕ) → Reaches delay hearer other t (suc u) → has BurstEnds (signs t) ≡ true → EndsBurst other u
   end-noted t u r n =
       let (v, p) = fair .end-sent t n in
       let e : v ≡ u = omega (arith, p .0) in
       subst (EndsBurst other) e (p .1)
 
+  -- where the other starts no burst, none is noted
   no-start : (t u : ℕ) → Reaches delay hearer other t (suc u) → (StartsBurst other u → ⊥) → has BurstStarts (signs t) ≡ false
   no-start t u r never = elim (cases-bool (has BurstStarts (signs t))) [ inl e ↦ absurd (never (start-noted t u r e)) | inr e ↦ e ]
 
+  -- and where it ends none, none is noted
   no-end : (t u : ℕ) → Reaches delay hearer other t (suc u) → (EndsBurst other u → ⊥) → has BurstEnds (signs t) ≡ false
   no-end t u r never = elim (cases-bool (has BurstEnds (signs t))) [ inl e ↦ absurd (never (end-noted t u r e)) | inr e ↦ e ]
 
@@ -100,6 +106,7 @@ module _ (delay : ℕ) (hearer other : Life) (fair : Hears delay hearer other) w
     pub no-comsas : d .comsas ≡ false
     pub not-fallen : d .fallen ≡ false
 
+  -- before anything of the other can arrive, no edge is noted
   quiet-slot : (t : ℕ) → t + hearer .born ≤ other .born + delay → (d : Detector) → heard (signs t) d ≡ d
   quiet-slot t le d = heard-quiet (signs t) d a b
     where
@@ -111,6 +118,7 @@ module _ (delay : ℕ) (hearer other : Life) (fair : Hears delay hearer other) w
       b = elim (cases-bool (has BurstEnds (signs t)))
           [ inl e ↦ (let (v, p) = fair .end-sent t e in absurd (omega (arith, p .0))) | inr e ↦ e ]
 
+  -- so until then nothing is detected
   pub blank : (t : ℕ) → t + hearer .born ≤ other .born + delay → Blank (hearing t)
   blank zero le = subst Blank (sym (ears-zero signs ∙ quiet-slot 0 le deaf))
       (record { off = refl; none = refl; no-cominit = refl; no-comsas = refl; not-fallen = refl })
@@ -141,6 +149,7 @@ module _ (delay : ℕ) (hearer other : Life) (fair : Hears delay hearer other) w
         recent = λ _ _ _. omega arith;
       })
 
+  -- and nothing is detected when the other's start arrives
   pub early-at-birth : (t : ℕ) → Reaches delay hearer other t 0 → Early 0 (hearing t)
   early-at-birth t r =
       let h = blank t (omega arith) in
@@ -153,6 +162,7 @@ module _ (delay : ℕ) (hearer other : Life) (fair : Hears delay hearer other) w
         recent = λ l _ _. absurd (omega arith);
       }
 
+  -- nor while its COMINIT arrives
   pub early : (t u : ℕ) → Reaches delay hearer other t u → t < age (hearer .notes) → u ≤ age (other .notes) →
       ((i : ℕ) → i ≤ u → bursting other i ≡ in-burst 960 i) → Early u (hearing t)
   early t u r la lo b = elim (cases-lt u t) [
@@ -208,13 +218,16 @@ module _ (delay : ℕ) (hearer other : Life) (fair : Hears delay hearer other) w
   -- the other's COMSAS begins with its tick c, which arrives at tick t, and is sent whole
   module _ (c t : ℕ) (begins : Begins (signs-at (other .notes)) (other .rates) c) (r : Reaches delay hearer other t c)
       (whole : c + 23925 ≤ age (other .notes)) where
+    -- what arrives from the last idle tick before the first burst on is COMSAS
     bursts-here : (i : ℕ) → i ≤ 21045 → shift (c + 2879) (bursting other) i ≡ in-burst 2880 (2879 + i)
     bursts-here i le = ap (bursting other) (add-assoc c 2879 i) ∙ sends-comsas (signs-at (other .notes)) (other .rates) c begins (2879 + i) (omega arith)
 
+    -- up to its first burst nothing of COMSAS is detected
     before-comsas : (x u : ℕ) → Reaches delay hearer other x u → x < age (hearer .notes) → u < c + 2880 → Early u (hearing x)
     before-comsas x u s la lt = early x u s la (omega arith)
         (λ i le. sends-early (signs-at (other .notes)) (other .rates) c begins i (omega arith))
 
+    -- its fourth like idle detects it
     pub hears-comsas : t + 15680 < age (hearer .notes) → hearing (t + 15680) .comsas ≡ true
     hears-comsas la =
         let e : (t + 2879) + 12801 ≡ t + 15680 = omega arith in
@@ -222,6 +235,7 @@ module _ (delay : ℕ) (hearer other : Life) (fair : Hears delay hearer other) w
         (ap (λ d. d .comsas) (follows (t + 2879) (c + 2879) (omega arith) 12801 (omega arith) (omega arith))
         ∙ comsas-heard (shift (c + 2879) (bursting other)) (hearing (t + 2879)) 21045 bursts-here (omega arith))
 
+    -- it has not fallen before its closing idle is over
     after-first : (i : ℕ) → i < 21045 → (t + 2879) + i < age (hearer .notes) → passed (hearing ((t + 2879) + i)) .fallen ≡ false
     after-first i lt la =
         let h = before-comsas (t + 2879) (c + 2879) (omega arith) (omega arith) (omega arith) in
@@ -247,6 +261,7 @@ module _ (delay : ℕ) (hearer other : Life) (fair : Hears delay hearer other) w
           subst (λ z. passed (hearing z) .fallen ≡ false) e (after-first (x - (t + 2879)) (omega arith) (omega arith)))
     ]
 
+    -- and then it falls
     pub falls : t + 23924 < age (hearer .notes) → passed (hearing (t + 23924)) .fallen ≡ true
     falls la =
         let e : (t + 2879) + 21045 ≡ t + 23924 = omega arith in

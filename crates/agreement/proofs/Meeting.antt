@@ -26,10 +26,12 @@ use Rattle.agreement.proofs.Line.{hearing, detected-since, hears-comsas, not-f
 use Rattle.agreement.proofs.Windows.{is-align1}
 use Rattle.agreement.proofs.Pair.{At, SilentBefore}
 
+-- a signal is no ALIGN(1)
 not-align1-sending : (b : Bool) → is-align1 (sending b) ≡ false
 not-align1-sending true = refl
 not-align1-sending false = refl
 
+-- x begins COMSAS at its tick c
 abbrev pub Starts : Life → ℕ → Type 0
 Starts x c = Begins (signs-at (x .notes)) (x .rates) c
 
@@ -51,6 +53,7 @@ first-new x v before opens =
 module _ (delay : ℕ) (short : delay ≤ 7000) (x y : Life) (fx : Hears delay x y) (fy : Hears delay y x) (cx cy : ℕ)
     (bx : Starts x cx) (by : Starts y cy) (sx : cx + 23925 ≤ age (x .notes)) (sy : cy + 23925 ≤ age (y .notes))
     (tx ty : ℕ) (rx : Reaches delay x y tx cy) (ry : Reaches delay y x ty cx) where
+  -- when x begins COMSAS, something of y has arrived
   since : (u : ℕ) × (Reaches delay x y cx u × (960 ≤ u))
   since = detected-since delay x y fx cx (omega arith) (omega arith) (bx .detected)
 
@@ -76,14 +79,17 @@ module _ (delay : ℕ) (short : delay ≤ 7000) (x y : Life) (fx : Hears delay x
   soon = let (u, p) = since in elim late
       [ inl l ↦ omega (arith, p .0, p .1) | inr l ↦ omega arith ]
 
+  -- the signs of x
   abbrev hx : ℕ → List Sign
   hx = signs-at (x .notes)
 
+  -- the COMSAS of y has not fallen before its closing idle has arrived
   not-yet : (k : ℕ) → cx ≤ k → k < tx + 23924 → k < age (x .notes) → passed (ears hx k) .fallen ≡ false
   not-yet k ge lt la =
       let (u, p) = since in
       not-fallen-before delay x y fx cy tx by rx sy k (k + x .born - (y .born + delay)) (omega (arith, p .0)) lt la
 
+  -- x waits for it long enough
   heard-by : (j : ℕ) → cx + 23925 + j ≤ age (x .notes) → (i : ℕ) → i < j → (ears hx (cx + 23925 + i) .comsas ≡ true) ⊎ (suc i < 32640)
   heard-by j la i lt = elim (cases-lt (cx + 23925 + i) (tx + 15680)) [
     | inl l ↦ inr (omega (arith, soon))
@@ -109,6 +115,7 @@ module _ (delay : ℕ) (short : delay ≤ 7000) (x y : Life) (fx : Hears delay x
         absurd (false≢true (ap is-over (sym (ap (λ e. e .phase) i)) ∙ over)))
   ]
 
+  -- while COMSAS is sent there is no ALIGN(1)
   comsas-silent : (u : ℕ) → cx ≤ u → u < cx + 23925 → activity (state-at x u) ≡ sends.Align1 → ⊥
   comsas-silent u ge lt a =
       let z : cx + (u - cx) ≡ u = omega arith in
@@ -117,6 +124,7 @@ module _ (delay : ℕ) (short : delay ≤ 7000) (x y : Life) (fx : Hears delay x
       (ap activity (comsas-stage hx (x .rates) cx no-window (comsas-begins hx (x .rates) cx bx) (u - cx) (omega arith))) in
       false≢true (sym (not-align1-sending (in-burst 2880 (u - cx))) ∙ ap is-align1 (sym e ∙ a))
 
+  -- nor while the end waits for the fall
   waiting-silent : (u : ℕ) → cx + 23925 ≤ u → u ≤ tx + 23924 → u ≤ age (x .notes) → activity (state-at x u) ≡ sends.Align1 → ⊥
   waiting-silent u ge lt la a =
       let z : cx + 23925 + (u - (cx + 23925)) ≡ u = omega arith in
@@ -124,6 +132,7 @@ module _ (delay : ℕ) (short : delay ≤ 7000) (x y : Life) (fx : Hears delay x
       let e : activity (state-at x u) ≡ Idle = subst (λ t. activity (state-at x t) ≡ Idle) z (ap activity (p .1)) in
       false≢true (ap is-align1 (sym e ∙ a))
 
+  -- with the fall the first window opens
   pub opens-first : tx + 23925 ≤ age (x .notes) → (o : ℕ) × Opened x cx tx o
   opens-first la = elim (cases-lt cx tx) [
     | inr at-once ↦

@@ -37,6 +37,7 @@ module _ (delay : ℕ) (short : delay ≤ 7000) (x y : Life) (fair : Hears delay
   abbrev wx : ℕ → Window
   wx k = current (signs-at (x .notes)) (x .rates) ox w fresh unaligned opens-x k
 
+  -- its rate through the window
   rate-x : (k : ℕ) → k < 328640 → rate-at x (ox + k) ≡ w .rate
   rate-x k lt = ap (λ e. e .window .rate) (window-stage (signs-at (x .notes)) (x .rates) ox w fresh unaligned opens-x k lt)
       ∙ open-rate (signs-at (x .notes)) (x .rates) ox w fresh unaligned opens-x k
@@ -66,9 +67,11 @@ module _ (delay : ℕ) (short : delay ≤ 7000) (x y : Life) (fair : Hears delay
   ]
 
   module _ (oy : ℕ) (opens-y : At y oy w) (near-x : oy + y .born ≤ ox + x .born + delay) (near-y : ox + x .born ≤ oy + y .born + delay) where
+    -- the window of y after k ticks
     abbrev wy : ℕ → Window
     wy k = current (signs-at (y .notes)) (y .rates) oy w fresh unaligned opens-y k
 
+    -- its rate through the window
     rate-y : (k : ℕ) → k < 328640 → rate-at y (oy + k) ≡ w .rate
     rate-y k lt = ap (λ e. e .window .rate) (window-stage (signs-at (y .notes)) (y .rates) oy w fresh unaligned opens-y k lt)
         ∙ open-rate (signs-at (y .notes)) (y .rates) oy w fresh unaligned opens-y k
@@ -91,6 +94,7 @@ module _ (delay : ℕ) (short : delay ≤ 7000) (x y : Life) (fair : Hears delay
               ))
         ]
 
+    -- from the latest lock on ALIGN(1) arrives at x, which is locked
     receiving : wx 314385 .locked ≡ true → wy 314385 .locked ≡ true → (i j : ℕ) → 314385 ≤ i → i < 328640 → 314385 ≤ j → j < 328640 →
         Receiving x y (ox + i) (oy + j)
     receiving lx ly i j ai bi aj bj =

@@ -1,18 +1,12 @@
 -- Two ends that open a window together come to one outcome.
 use Prim.Native.Nat.{ℕ, zero, suc, _+_, _-_, _*_, _≤_, _<_}
 use native.Mathlib.Omega.{arith}
-use native.Mathlib.Nat.{add-suc, add-zero, add-assoc}
 use mathlib.Core.Path.{_≡_, refl, sym, _∙_, ap, subst}
-use mathlib.Core.Bool.{Bool, true, false, cond, not, _&&_, _||_}
-use mathlib.Core.List.{List, [], _∷_}
+use mathlib.Core.Bool.{Bool, true, false, not}
 use mathlib.Core.Logic.{_⊎_, inl, inr}
-use Rattle.std.proofs.shelf.Tests.{both-ways, true≢false, false≢true, cases-bool, cases-lt, cases-eq, and-from, and-parts, not-false, not-true, or-right}
-use lib.Dec.{eqb}
-use Rattle.bringup.specs.declared.end.Phase.{Phase}
-use Rattle.bringup.specs.declared.end.Phase.the-variants.{Unstarted, SendingCominit, Awaiting, SendingComsas, Falling, Negotiating, Ready, Failed}
+use Rattle.std.proofs.shelf.Tests.{both-ways, true≢false, false≢true, cases-bool, cases-lt, and-from, and-parts}
+use Rattle.bringup.specs.declared.end.Phase.the-variants.{Negotiating, Ready, Failed}
 use Rattle.bringup.specs.declared.rate.Rate.{Rate}
-use Rattle.bringup.specs.declared.rate.Rate.the-variants.{NoRate, G1, G2, G3, G4}
-use Rattle.bringup.specs.declared.rate.RateSet.{RateSet}
 use Rattle.bringup.specs.declared.end.Window.{Window}
 use Rattle.bringup.specs.declared.end.Sign.the-variants.{Locked}
 use Rattle.bringup.specs.declared.end.Activity.the-variants.{Idle}
@@ -20,37 +14,10 @@ use Rattle.bringup.specs.declared.end.Activity.the-variants as sends
 use Rattle.bringup.specs.Rates.{supports, next-rate, previous-rate, past-highest, rate-number}
 use Rattle.bringup.specs.Asking.{activity, outcome-in}
 use Rattle.agreement.specs.FairLine.{Life, Hears, state-at, rate-at, present, present-rate, age, signs-at, Over, is-over, BothReady, BothFailed, shared, OpensWindow, LocksInTime, has}
-use Rattle.agreement.proofs.Stages.{In, state}
+use Rattle.agreement.proofs.Stages.{In}
 use Rattle.agreement.proofs.Windows.{current, window-stage, open-rate, lock-noted, locked-since, fresh-window, is-align1, closes-ready, closes-failed, closes-valid, closes-back, closes-gives-up, closes-next, ready-stays, failed-stays}
+use Rattle.agreement.proofs.RateOrder.{Within, within-step, at-most-four, rate-same, next-differs, previous-differs, supported-next, supported-above}
 use Rattle.agreement.proofs.Pair.{At, Silent, SilentBefore, invalid-alone, valid-both-locked, both-locked-valid}
-
--- the highest supported rate is this one, above it or just below it
-abbrev pub Within : RateSet → Rate → Type 0
-Within s NoRate = ⊥
-Within s G1 = Unit {0}
-Within s G2 = Unit {0}
-Within s G3 = (s .g2 || s .g3) ≡ true
-Within s G4 = s .g3 ≡ true
-
-within-step : (s : RateSet) (r : Rate) → Within s r → past-highest s r ≡ false → (rate-number (next-rate r) ≡ suc (rate-number r)) × Within s (next-rate r)
-within-step s NoRate h p = absurd h
-within-step s G1 h p = (refl, tt)
-within-step s G2 h p = (refl, not-false (s .g2 || s .g3) p)
-within-step s G3 h p = (refl, go (s .g2) (s .g3) h p)
-  where
-    go : (x y : Bool) → (x || y) ≡ true → (x && not y) ≡ false → y ≡ true
-    go true true a b = refl
-    go true false a b = absurd (true≢false b)
-    go false true a b = refl
-    go false false a b = a
-within-step s G4 h p = absurd (both-ways (s .g3) p h)
-
-at-most-four : (r : Rate) → rate-number r ≤ 4
-at-most-four NoRate = omega arith
-at-most-four G1 = omega arith
-at-most-four G2 = omega arith
-at-most-four G3 = omega arith
-at-most-four G4 = omega arith
 
 -- One end
 
@@ -72,9 +39,11 @@ module _ (x : Life) where
     ]
   ]
 
+  -- after a window one less is left
   pub lasting-next : (o n : ℕ) → o + 328640 ≤ age (x .notes) → Lasting x o (suc n) → Lasting x (o + 328640) n
   lasting-next o n c l = (c, elim (l .1) [ inl over ↦ inl over | inr long ↦ inr (omega arith) ])
 
+  -- an end that was ready is ready now, at that rate
   pub ends-ready : (t : ℕ) (w : Window) → In (signs-at (x .notes)) (x .rates) t Ready 0 w → t ≤ age (x .notes) → (present x .phase ≡ Ready) × (present-rate x ≡ w .rate)
   ends-ready t w e le =
       let (n, i) = ready-stays (signs-at (x .notes)) (x .rates) t w 0 e (age (x .notes) - t) in
@@ -82,6 +51,7 @@ module _ (x : Life) where
       let j : In (signs-at (x .notes)) (x .rates) (age (x .notes)) Ready n w = subst (λ q. In (signs-at (x .notes)) (x .rates) q Ready n w) z i in
       (ap (λ q. q .phase) j, ap (λ q. q .window .rate) j)
 
+  -- an end that failed is failed now
   pub ends-failed : (t : ℕ) (w : Window) → In (signs-at (x .notes)) (x .rates) t Failed 0 w → t ≤ age (x .notes) → present x .phase ≡ Failed
   ends-failed t w e le =
       let (n, i) = failed-stays (signs-at (x .notes)) (x .rates) t w 0 e (age (x .notes) - t) in
@@ -96,6 +66,7 @@ module _ (x : Life) where
       (ap (λ q. q .window .rate) (window-stage (signs-at (x .notes)) (x .rates) o w f v e (u - o) (omega arith))
       ∙ open-rate (signs-at (x .notes)) (x .rates) o w f v e (u - o))
 
+  -- a failed end sends nothing
   failed-idle : (t : ℕ) (w : Window) → In (signs-at (x .notes)) (x .rates) t Failed 0 w → (u : ℕ) → t ≤ u → activity (state-at x u) ≡ Idle
   failed-idle t w e u le =
       let (n, i) = failed-stays (signs-at (x .notes)) (x .rates) t w 0 e (u - t) in
@@ -112,6 +83,7 @@ module _ (x : Life) where
 
 -- An end whose partner has failed fails too
 module _ (delay : ℕ) (short : delay ≤ 7000) (x y : Life) (fair : Hears delay x y) (f : ℕ) where
+  -- an invalid window of an end that hears no ALIGN(1): it fails, or the same holds of the next
   alone-step : (n : ℕ) (r : Rate) (o : ℕ) → At x o (fresh-window r false false) → Within (x .rates) r → Silent y f r →
       f + y .born ≤ o + x .born + delay → Lasting x o (suc n) →
       (rate-number (next-rate r) ≡ suc (rate-number r) → Within (x .rates) (next-rate r) → At x (o + 328640) (fresh-window (next-rate r) false false) →
@@ -128,6 +100,7 @@ module _ (delay : ℕ) (short : delay ≤ 7000) (x y : Life) (fair : Hears delay
             onward (s .0) (s .1) (closes-next (signs-at (x .notes)) (x .rates) o w refl refl e refl v refl p) c)
       ]
 
+  -- so it fails, after at most so many windows as rates are left
   pub alone : (n : ℕ) (r : Rate) (o : ℕ) → At x o (fresh-window r false false) → 4 ≤ rate-number r + n → Within (x .rates) r →
       ((q : Rate) → rate-number r ≤ rate-number q → Silent y f q) → f + y .born ≤ o + x .born + delay → Lasting x o (suc n) → present x .phase ≡ Failed
   alone zero r o e enough within silent near lasting =
@@ -154,6 +127,7 @@ pub record Joint (delay : ℕ) (a b : Life) (oa ob : ℕ) (w : Window) : Type 0 
 module _ (delay : ℕ) (short : delay ≤ 7000) (a b : Life) (fair-a : Hears delay a b) (fair-b : Hears delay b a) where
   module _ (oa ob : ℕ) (w : Window) (f : w .locked ≡ false) (u : w .aligned ≡ false) (j : Joint delay a b oa ob w)
       (ca : oa + 328640 ≤ age (a .notes)) (cb : ob + 328640 ≤ age (b .notes)) where
+    -- the windows of a and of b as they close
     abbrev wa : Window
     wa = current (signs-at (a .notes)) (a .rates) oa w f u (j .opens-a) 328639
 
@@ -166,11 +140,13 @@ module _ (delay : ℕ) (short : delay ≤ 7000) (a b : Life) (fair-a : Hears del
         let l = valid-both-locked delay short a b fair-a w f u oa (j .opens-a) ob (j .opens-b) (j .near-a) (j .near-b) (j .silent-b) v in
         (both-locked-valid delay short b a fair-b w f u ob (j .opens-b) oa (j .opens-a) (j .near-b) (j .near-a) cb ca (l .1 .0) (l .0 .0), l .0 .1, l .1 .1)
 
+    -- the same from b to a
     b-valid : wb .aligned ≡ true → wa .aligned ≡ true
     b-valid v =
         let l = valid-both-locked delay short b a fair-b w f u ob (j .opens-b) oa (j .opens-a) (j .near-b) (j .near-a) (j .silent-a) v in
         both-locked-valid delay short a b fair-a w f u oa (j .opens-a) ob (j .opens-b) (j .near-a) (j .near-b) ca cb (l .1 .0) (l .0 .0)
 
+    -- so both are valid or neither is
     pub together : ((wa .aligned ≡ true) × (wb .aligned ≡ true) × (supports (a .rates) (w .rate) ≡ true) × (supports (b .rates) (w .rate) ≡ true))
         ⊎ ((wa .aligned ≡ false) × (wb .aligned ≡ false))
     together = elim (cases-bool (wa .aligned)) [
@@ -208,56 +184,8 @@ module _ (delay : ℕ) (short : delay ≤ 7000) (a b : Life) (fair-a : Hears del
       new-b = (ob + 328639, (omega arith, λ q. other (sym (window-rate b ob w f u (j .opens-b) (ob + 328639) (omega arith) (omega arith)) ∙ (q ∙ ap (λ z. z .window .rate) eb))));
     }
 
--- Rates in their order
-
-rate-of : ℕ → Rate
-rate-of n = cond (eqb n 0) NoRate (cond (eqb n 1) G1 (cond (eqb n 2) G2 (cond (eqb n 3) G3 G4)))
-
-rate-by-number : (r : Rate) → rate-of (rate-number r) ≡ r
-unfolding rate-of
-rate-by-number NoRate = refl
-rate-by-number G1 = refl
-rate-by-number G2 = refl
-rate-by-number G3 = refl
-rate-by-number G4 = refl
-
-rate-same : (r q : Rate) → rate-number r ≡ rate-number q → r ≡ q
-rate-same r q e = sym (rate-by-number r) ∙ ap rate-of e ∙ rate-by-number q
-
-next-differs : (r : Rate) → rate-number (next-rate r) ≡ suc (rate-number r) → r ≡ next-rate r → ⊥
-next-differs r e d = omega (arith, ap rate-number d)
-
-previous-differs : (r : Rate) → 1 ≤ rate-number r → r ≡ previous-rate r → ⊥
-previous-differs NoRate h d = omega arith
-previous-differs G1 h d = let z : 1 ≡ rate-number NoRate = ap rate-number d in omega arith
-previous-differs G2 h d = let z : 2 ≡ rate-number G1 = ap rate-number d in omega arith
-previous-differs G3 h d = let z : 3 ≡ rate-number G2 = ap rate-number d in omega arith
-previous-differs G4 h d = let z : 4 ≡ rate-number G3 = ap rate-number d in omega arith
-
-supported-next : (s : RateSet) (r : Rate) → supports s r ≡ true → (rate-number (next-rate r) ≡ suc (rate-number r)) × (previous-rate (next-rate r) ≡ r)
-supported-next s NoRate e = absurd (false≢true e)
-supported-next s G1 e = (refl, refl)
-supported-next s G2 e = (refl, refl)
-supported-next s G3 e = (refl, refl)
-supported-next s G4 e = absurd (false≢true e)
-
--- below a supported rate an end does not give up
-supported-above : (s : RateSet) (r q : Rate) → supports s q ≡ true → rate-number r < rate-number q → past-highest s r ≡ false
-supported-above s NoRate q e lt = refl
-supported-above s G1 q e lt = refl
-supported-above s G2 NoRate e lt = absurd (false≢true e)
-supported-above s G2 G1 e lt = absurd (omega arith)
-supported-above s G2 G2 e lt = absurd (omega arith)
-supported-above s G2 G3 e lt = ap not (or-right (s .g2) (s .g3) e)
-supported-above s G2 G4 e lt = absurd (false≢true e)
-supported-above s G3 NoRate e lt = absurd (false≢true e)
-supported-above s G3 G1 e lt = absurd (omega arith)
-supported-above s G3 G2 e lt = absurd (omega arith)
-supported-above s G3 G3 e lt = absurd (omega arith)
-supported-above s G3 G4 e lt = absurd (false≢true e)
-supported-above s G4 q e lt = absurd (omega (arith, at-most-four q))
-
 module _ (delay : ℕ) (short : delay ≤ 7000) (a b : Life) (fair-a : Hears delay a b) (fair-b : Hears delay b a) where
+  -- both lock in time at shared rates
   abbrev pub Locks : Type 0
   Locks = LocksInTime a b a × LocksInTime a b b
 
@@ -265,6 +193,7 @@ module _ (delay : ℕ) (short : delay ≤ 7000) (a b : Life) (fair-a : Hears del
   abbrev pub Result : Type 0 → Type 0
   Result hope = (BothReady a b ⊎ BothFailed a b) × (hope → BothReady a b)
 
+  -- the outcome if both failed and nothing was to be hoped for
   both-failed : {hope : Type 0} → present a .phase ≡ Failed → present b .phase ≡ Failed → (hope → ⊥) → Result hope
   both-failed p q never = (inr (ap outcome-in p, ap outcome-in q), λ h. absurd (never h))
 
@@ -304,6 +233,7 @@ module _ (delay : ℕ) (short : delay ≤ 7000) (a b : Life) (fair-a : Hears del
   Hope r av = Locks × ((av ≡ true → shared a b (previous-rate r) ≡ true)
       × (av ≡ false → (q : Rate) × ((shared a b q ≡ true) × (rate-number r ≤ rate-number q))))
 
+  -- who lasts for more windows lasts for one
   lasting-one : (x : Life) (o n : ℕ) → Lasting x o (suc n) → Lasting x o 1
   lasting-one x o n l = (l .0, elim (l .1) [ inl over ↦ inl over | inr long ↦ inr (omega arith) ])
 
@@ -417,6 +347,7 @@ module _ (delay : ℕ) (short : delay ≤ 7000) (a b : Life) (fair-a : Hears del
         ]
       ]
 
+  -- so with enough windows left two ends that open one together come to one outcome
   pub settle : (n : ℕ) (r : Rate) (av : Bool) (oa ob : ℕ) → Joint delay a b oa ob (fresh-window r false av) →
       4 ≤ rate-number r + n → 1 ≤ rate-number r → (av ≡ false → Within (a .rates) r × Within (b .rates) r) →
       Lasting a oa (suc (suc n)) → Lasting b ob (suc (suc n)) → Result (Hope r av)

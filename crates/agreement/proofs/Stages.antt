@@ -30,6 +30,7 @@ module _ (h : ℕ → List Sign) (s : RateSet) where
   abbrev pub state : ℕ → End
   state t = after h (begun s) t
 
+  -- one tick more
   pub state-suc : (t : ℕ) (e f : End) → state t ≡ e → all-signed (h (suc t)) (tick e) ≡ f → state (suc t) ≡ f
   unfolding after
   state-suc t e f p q = ap (λ z. all-signed (h (suc t)) (tick z)) p ∙ q
@@ -45,6 +46,7 @@ module _ (h : ℕ → List Sign) (s : RateSet) where
   step t p q j k v w e f = state-suc t (make s p j (ears h t) v) (make s q k (ears h (suc t)) w) e
       (f ∙ ap (λ d. make s q k d w) (sym (ears-suc h t)))
 
+  -- an end sends COMINIT for its first 9,255 ticks
   pub cominit-stage : (t : ℕ) → t < 9255 → In t SendingCominit t no-window
   unfolding after
   cominit-stage zero _ = signs-other (h 0) s SendingCominit 0 deaf no-window refl refl ∙ ap (λ d. make s SendingCominit 0 d no-window) (sym (ears-zero h))
@@ -52,6 +54,7 @@ module _ (h : ℕ → List Sign) (s : RateSet) where
       step t SendingCominit SendingCominit t (suc t) no-window no-window (cominit-stage t (omega arith))
       (cominit-step (h (suc t)) s t (ears h t) no-window lt)
 
+  -- and then waits for a signal
   pub waiting-begins : state 9255 ≡ waiting s 0 (ears h 9255) no-window
   waiting-begins =
       state-suc 9254 (make s SendingCominit 9254 (ears h 9254) no-window) (waiting s 0 (ears h 9255) no-window) (cominit-stage 9254 (omega arith))
@@ -74,6 +77,7 @@ module _ (h : ℕ → List Sign) (s : RateSet) where
             ∙ ap (λ d. waiting s (later k) d no-window) (sym (ears-suc h (9255 + j))))),
       )
 
+  -- COMSAS is sent for 23,925 ticks from where it begins
   pub comsas-stage : (t : ℕ) (w : Window) → In t SendingComsas 0 w → (j : ℕ) → j < 23925 → In (t + j) SendingComsas j w
   comsas-stage t w e zero _ = rw (add-zero t) e
   comsas-stage t w e (suc j) lt =
@@ -82,9 +86,11 @@ module _ (h : ℕ → List Sign) (s : RateSet) where
 
   -- Bursts
 
+  -- whether the end sends a burst in a tick
   abbrev pub bursts : ℕ → Bool
   bursts t = is-burst (activity (state t))
 
+  -- which follows from what is known of its state
   bursts-of : (t : ℕ) (e : End) → state t ≡ e → bursts t ≡ is-burst (activity e)
   bursts-of t e p = ap (λ z. is-burst (activity z)) p
 
@@ -98,15 +104,18 @@ module _ (h : ℕ → List Sign) (s : RateSet) where
     pub detected : signalled (ears h c) ≡ true
     pub not-before : Unheard c
 
+  -- while no signal is detected, it waits
   waiting-at : (x : ℕ) → 9255 ≤ x → Unheard x → (k : ℕ) × (state x ≡ waiting s k (ears h x) no-window)
   waiting-at x ge quiet =
       let e : 9255 + (x - 9255) ≡ x = omega arith in
       subst (λ z. (k : ℕ) × (state z ≡ waiting s k (ears h z) no-window)) e
       (waiting-stage (x - 9255) (λ i lt. quiet (9255 + i) (omega arith) (omega arith)))
 
+  -- a waiting end sends no burst
   waiting-silent : (k : ℕ) (d : Detector) (w : Window) → is-burst (activity (waiting s k d w)) ≡ false
   waiting-silent k d w = cond-both (signalled d) (make s SendingComsas 0 d w) (make s Awaiting k d w) (λ z. is-burst (activity z) ≡ false) (λ _. refl) (λ _. refl)
 
+  -- of a signal it sends just the bursts
   sent-burst : (b : Bool) → is-burst (sending b) ≡ b
   sent-burst true = refl
   sent-burst false = refl
@@ -120,11 +129,13 @@ module _ (h : ℕ → List Sign) (s : RateSet) where
   ]
 
   module _ (c : ℕ) (begins : Begins c) where
+    -- with the detection COMSAS begins
     pub comsas-begins : In c SendingComsas 0 no-window
     comsas-begins =
         let (k, e) = waiting-at c (begins .after-cominit) (begins .not-before) in
         e ∙ cond-true (signalled (ears h c)) (make s SendingComsas 0 (ears h c) no-window) (make s Awaiting k (ears h c) no-window) (begins .detected)
 
+    -- its bursts are those of COMSAS
     pub sends-comsas : (j : ℕ) → j < 23925 → bursts (c + j) ≡ in-burst 2880 j
     sends-comsas j lt = bursts-of (c + j) (make s SendingComsas j (ears h (c + j)) no-window) (comsas-stage c no-window comsas-begins j lt) ∙ sent-burst (in-burst 2880 j)
 
@@ -148,6 +159,7 @@ module _ (h : ℕ → List Sign) (s : RateSet) where
   heard-fallen (Locked ∷ gs) d = heard-fallen gs d
   heard-fallen (Align1 ∷ gs) d = heard-fallen gs d
 
+  -- signs do not undo the detection of COMSAS
   heard-comsas : (gs : List Sign) (d : Detector) → d .comsas ≡ true → heard gs d .comsas ≡ true
   heard-comsas [] d e = e
   heard-comsas (Nothing ∷ gs) d e = heard-comsas gs d e
@@ -156,20 +168,24 @@ module _ (h : ℕ → List Sign) (s : RateSet) where
   heard-comsas (Locked ∷ gs) d e = heard-comsas gs d e
   heard-comsas (Align1 ∷ gs) d e = heard-comsas gs d e
 
+  -- signs do not let COMSAS fall, only ticks do
   pub fallen-next : (t : ℕ) → ears h (suc t) .fallen ≡ passed (ears h t) .fallen
   fallen-next t = ap (λ d. d .fallen) (ears-suc h t) ∙ heard-fallen (h (suc t)) (passed (ears h t))
 
+  -- what has fallen stays fallen
   pub fallen-stays : (t j : ℕ) → passed (ears h t) .fallen ≡ true → passed (ears h (t + j)) .fallen ≡ true
   fallen-stays t zero e = rw (add-zero t) e
   fallen-stays t (suc j) e = rw (add-suc t j)
       (passed-fallen-stays (ears h (suc (t + j))) (fallen-next (t + j) ∙ fallen-stays t j e))
 
+  -- what is detected stays detected
   pub comsas-stays : (t j : ℕ) → ears h t .comsas ≡ true → ears h (t + j) .comsas ≡ true
   comsas-stays t zero e = rw (add-zero t) e
   comsas-stays t (suc j) e = rw (add-suc t j)
       (ap (λ d. d .comsas) (ears-suc h (t + j))
       ∙ heard-comsas (h (suc (t + j))) (passed (ears h (t + j))) (passed-same (ears h (t + j)) .4 ∙ comsas-stays t j e))
 
+  -- a tick counts for one at most
   later-at-most : (k : ℕ) → later k ≤ k + 1
   later-at-most k = grind (arith, tells)
 
@@ -215,6 +231,7 @@ module _ (h : ℕ → List Sign) (s : RateSet) where
           ),
         )
 
+    -- if the other falls after COMSAS is sent, the first window opens then
     pub opens-later : (j : ℕ) → ((i : ℕ) → i ≤ j → passed (ears h (c + 23924 + i)) .fallen ≡ false) →
         ((i : ℕ) → i < j → (ears h (c + 23925 + i) .comsas ≡ true) ⊎ (suc i < 32640)) →
         passed (ears h (c + 23925 + j)) .fallen ≡ true → In (suc (c + 23925 + j)) Negotiating 0 first-window
@@ -232,6 +249,7 @@ module _ (h : ℕ → List Sign) (s : RateSet) where
   heard-signalled (Locked ∷ gs) d e = heard-signalled gs d e
   heard-signalled (Align1 ∷ gs) d e = heard-signalled gs d e
 
+  -- what is detected stays detected
   pub signalled-stays : (t j : ℕ) → signalled (ears h t) ≡ true → signalled (ears h (t + j)) ≡ true
   signalled-stays t zero e = rw (add-zero t) e
   signalled-stays t (suc j) e = rw (add-suc t j)
@@ -252,6 +270,7 @@ module _ (h : ℕ → List Sign) (s : RateSet) where
     ]
   ]
 
+  -- once a signal is detected, COMSAS has begun at some tick up to then
   pub begins-by : (t : ℕ) → 9255 ≤ t → signalled (ears h t) ≡ true → (c : ℕ) × ((c ≤ t) × Begins c)
   begins-by t ge e =
       let z : 9255 + suc (t - 9255) ≡ suc t = omega arith in

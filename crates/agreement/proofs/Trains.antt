@@ -24,27 +24,34 @@ use Rattle.agreement.proofs.Hearing.{hear, relay, relay-zero, relay-suc, relay
 pub cominit-on : (u : ℕ) → u < 7680 → 960 ≤ u % 1280 → in-burst 960 u ≡ true
 cominit-on u a b = and-from (ltb u 7680) (leb 960 (u % 1280)) (lt-ltb u 7680 a) (le-leb 960 (u % 1280) b)
 
+-- COMINIT is idle in the first 960 ticks of each period
 pub cominit-off : (u : ℕ) → u % 1280 < 960 → in-burst 960 u ≡ false
 cominit-off u a = and-right (ltb u 7680) (leb 960 (u % 1280)) (lt-leb 960 (u % 1280) a)
 
+-- and after its six periods
 pub cominit-past : (u : ℕ) → 7680 ≤ u → in-burst 960 u ≡ false
 cominit-past u a = and-left (ltb u 7680) (leb 960 (u % 1280)) (le-ltb u 7680 a)
 
+-- where it bursts, it is in a period and past its idle
 pub cominit-is-on : (u : ℕ) → in-burst 960 u ≡ true → (u < 7680) × (960 ≤ u % 1280)
 cominit-is-on u e =
     let p = and-parts (ltb u 7680) (leb 960 (u % 1280)) e in
     (ltb-true u 7680 (p .0), leb-true 960 (u % 1280) (p .1))
 
+-- where it is idle, it is past its periods or in an idle
 pub cominit-is-off : (u : ℕ) → in-burst 960 u ≡ false → (7680 ≤ u) ⊎ (u % 1280 < 960)
 cominit-is-off u e = elim (and-cases (ltb u 7680) (leb 960 (u % 1280)) e)
     [ inl p ↦ inl (ltb-false u 7680 p) | inr p ↦ inr (leb-false 960 (u % 1280) p) ]
 
+-- COMSAS bursts past the idle of each of its six periods
 pub comsas-on : (u : ℕ) → u < 19200 → 2880 ≤ u % 3200 → in-burst 2880 u ≡ true
 comsas-on u a b = and-from (ltb u 19200) (leb 2880 (u % 3200)) (lt-ltb u 19200 a) (le-leb 2880 (u % 3200) b)
 
+-- it is idle in the first 2,880 ticks of each
 pub comsas-off : (u : ℕ) → u % 3200 < 2880 → in-burst 2880 u ≡ false
 comsas-off u a = and-right (ltb u 19200) (leb 2880 (u % 3200)) (lt-leb 2880 (u % 3200) a)
 
+-- and after its six periods
 pub comsas-past : (u : ℕ) → 19200 ≤ u → in-burst 2880 u ≡ false
 comsas-past u a = and-left (ltb u 19200) (leb 2880 (u % 3200)) (le-ltb u 19200 a)
 
@@ -59,12 +66,15 @@ passed-same d = go (d .burst) refl
     go true e = (rw e, rw e, rw e, rw e, rw e)
     go false e = (rw e, rw e, rw e, rw e, rw e)
 
+-- nothing falls that was not detected
 pub passed-fallen : (d : Detector) → d .comsas ≡ false → passed d .fallen ≡ d .fallen
 passed-fallen d e = grind (arith, tells)
 
+-- a tick lengthens an idle by one at most
 pub passed-longer : (d : Detector) → passed d .idle ≤ d .idle + 1
 passed-longer d = grind (arith, tells)
 
+-- an idle under 1,575 is not of COMSAS
 pub short-kind : (n : ℕ) → n < 1575 → is-comsas (signal-of n) ≡ false
 short-kind n h = grind (arith, tells)
 
@@ -75,6 +85,7 @@ first-alike (Some Comwake) n = omega arith
 first-alike (Some Cominit) n = omega arith
 first-alike (Some Comsas) n = omega arith
 
+-- a start closes the idle
 pub risen-idle : (d : Detector) → d .burst ≡ false →
     risen d ≡ closed (signal-of (d .idle)) (alike-after (signal-of (d .idle)) (d .signal) (d .alike)) d
 risen-idle d e = cond-false (d .burst) d (closed (signal-of (d .idle)) (alike-after (signal-of (d .idle)) (d .signal) (d .alike)) d) e
@@ -88,6 +99,7 @@ pub record Early (u : ℕ) (d : Detector) : Type 0 where
   pub held : d .burst ≡ true → in-burst 960 u ≡ true
   pub recent : 960 ≤ u → u < 7680 → d .burst ≡ false → d .idle ≤ (u + 320) % 1280
 
+-- an idle that does not complete a row of four of COMSAS detects none
 closed-no-comsas : (k : Option Signal) (n : ℕ) (d : Detector) → d .comsas ≡ false → (is-comsas k && leb 4 n) ≡ false → closed k n d .comsas ≡ false
 closed-no-comsas k n d e f = cond-false (is-comsas k && leb 4 n) true (d .comsas) f ∙ e
 
@@ -138,6 +150,7 @@ early-next u d h ge x y =
       recent = λ _ _ e. absurd (true≢false e);
     })
 
+-- a burst of COMINIT ends
 early-ends : (u : ℕ) (d : Detector) → Early u d → in-burst 960 u ≡ true → in-burst 960 (suc u) ≡ false → Early (suc u) (ceased (passed d))
 early-ends u d h x y =
     let same = passed-same d in
@@ -151,6 +164,7 @@ early-ends u d h x y =
       recent = λ _ _ _. omega arith;
     }
 
+-- no burst starts or ends
 early-stays : (u : ℕ) (d : Detector) → Early u d → in-burst 960 (suc u) ≡ in-burst 960 u → Early (suc u) (passed d)
 early-stays u d h same-burst =
     let same = passed-same d in
@@ -174,6 +188,7 @@ early-stays u d h same-burst =
         let n = no-start a l in
         omega (arith, passed-longer d, h .recent (n .1) (omega arith) e, n .0)
 
+-- so a tick of the other's COMINIT keeps COMSAS undetected
 pub early-step : (u : ℕ) (d : Detector) → Early u d → Early (suc u) (hear (in-burst 960 u) (in-burst 960 (suc u)) (passed d))
 early-step u d h = go (in-burst 960 u) (in-burst 960 (suc u)) refl refl
   where
@@ -183,6 +198,7 @@ early-step u d h = go (in-burst 960 u) (in-burst 960 (suc u)) refl refl
     go true false x y = early-ends u d h x y
     go true true x y = early-stays u d h (y ∙ sym x)
 
+-- and so does all of it
 pub early-lasts : (b : ℕ → Bool) (d : Detector) (u : ℕ) → Early u d → (j : ℕ) →
     ((i : ℕ) → i ≤ j → b i ≡ in-burst 960 (u + i)) → Early (u + j) (relay b d j)
 early-lasts b d u h zero is = rw (relay-zero b d, add-zero u) h
@@ -195,6 +211,7 @@ early-lasts b d u h (suc j) is =
 
 -- A whole COMINIT, from the tick before its first burst
 module _ (b : ℕ → Bool) (d : Detector) (is : (i : ℕ) → i ≤ 5121 → b i ≡ in-burst 960 (959 + i)) where
+  -- the first burst
   cominit-first : relay b d 1 ≡ risen (passed d)
   cominit-first = relay-step b d d 0 false true (is 0 (omega arith) ∙ cominit-off 959 (omega arith))
       (is 1 (omega arith) ∙ cominit-on 960 (omega arith) (omega arith)) (relay-zero b d)
@@ -209,9 +226,11 @@ module _ (b : ℕ → Bool) (d : Detector) (is : (i : ℕ) → i ≤ 5121 → b 
       (λ q lq. is (1 + q * 1280) (omega arith) ∙ cominit-on (959 + (1 + q * 1280)) (omega arith) (omega arith)))
       ∙ cominit-detected (risen (passed d))
 
+-- a start lets nothing fall
 pub risen-fallen : (d : Detector) → risen d .fallen ≡ d .fallen
 risen-fallen d = hear-fallen false true d
 
+-- the fifth period finds COMSAS detected
 five-detected : (d : Detector) → periods 2879 5 d .comsas ≡ true
 unfolding periods
 five-detected d =
@@ -220,10 +239,12 @@ five-detected d =
 
 -- A whole COMSAS, from the tick before its first burst, until it falls
 module _ (b : ℕ → Bool) (d : Detector) (last : ℕ) (is : (i : ℕ) → i ≤ last → b i ≡ in-burst 2880 (2879 + i)) where
+  -- the first burst
   comsas-first : 1 ≤ last → relay b d 1 ≡ risen (passed d)
   comsas-first l = relay-step b d d 0 false true (is 0 (omega arith) ∙ comsas-off 2879 (omega arith))
       (is 1 (omega arith) ∙ comsas-on 2880 (omega arith) (omega arith)) (relay-zero b d)
 
+  -- each further period is heard as one
   comsas-train : (k : ℕ) → k ≤ 5 → 1 + k * 3200 ≤ last → relay b d (1 + k * 3200) ≡ periods 2879 k (risen (passed d))
   comsas-train k le l =
       relay-split b d 1 (k * 3200) ∙ ap (λ z. relay (shift 1 b) z (k * 3200)) (comsas-first (omega arith))
@@ -253,10 +274,12 @@ module _ (b : ℕ → Bool) (d : Detector) (last : ℕ) (is : (i : ℕ) → i �
       (λ i li. is (16001 + (320 + i)) (omega arith) ∙ comsas-past (2879 + (16001 + (320 + i))) (omega arith)) (omega arith) in
       relay-split b d 16001 5044 ∙ ap (λ z. relay c z 5044) (comsas-train 5 (omega arith) (omega arith)) ∙ quiet
 
+  -- one tick before the end of the closing idle it has not fallen
   pub comsas-not-fallen : 21045 ≤ last → d .comsas ≡ false → d .fallen ≡ false → relay b d 21045 .fallen ≡ false
   comsas-not-fallen l e f =
       ap (λ z. z .fallen) (comsas-rest l) ∙ periods-fallen 2879 5 (risen (passed d)) ∙ risen-fallen (passed d) ∙ passed-fallen d e ∙ f
 
+  -- with that tick it has
   pub comsas-fallen : 21045 ≤ last → passed (relay b d 21045) .fallen ≡ true
   comsas-fallen l =
       ap (λ z. passed z .fallen) (comsas-rest l)
@@ -267,6 +290,7 @@ module _ (b : ℕ → Bool) (d : Detector) (last : ℕ) (is : (i : ℕ) → i �
 pub passed-fallen-stays : (d : Detector) → d .fallen ≡ true → passed d .fallen ≡ true
 passed-fallen-stays d e = grind (arith, tells)
 
+-- what has fallen stays fallen
 pub relay-fallen-stays : (b : ℕ → Bool) (d : Detector) (i k : ℕ) → relay b d i .fallen ≡ true → relay b d (i + k) .fallen ≡ true
 relay-fallen-stays b d i zero e = rw (add-zero i) e
 relay-fallen-stays b d i (suc k) e =

@@ -38,6 +38,7 @@ pub record Grows (s : RateSet) (k : ℕ) (gs : List Sign) (v w : Window) : Type 
   pub lock-counts : w .locked ≡ true → (v .locked ≡ true) ⊎ (in-time s k v ≡ true)
   pub align-noted : w .aligned ≡ true → (v .aligned ≡ true) ⊎ ((has Align1 gs ≡ true) × (w .locked ≡ true))
 
+-- without signs nothing grows
 grows-none : (s : RateSet) (k : ℕ) (w : Window) → Grows s k [] w w
 grows-none s k w = record {
   rate = refl;
@@ -49,6 +50,7 @@ grows-none s k w = record {
   align-noted = λ e. inl e;
 }
 
+-- one more sign ahead keeps what grew
 grows-more : (g : Sign) (gs : List Sign) (s : RateSet) (k : ℕ) (v w : Window) → Grows s k gs v w → Grows s k (g ∷ gs) v w
 grows-more g gs s k v w h = record {
   rate = h .rate;
@@ -60,6 +62,7 @@ grows-more g gs s k v w h = record {
   align-noted = λ e. elim (h .align-noted e) [ inl p ↦ inl p | inr p ↦ inr (or-right (is-sign Align1 g) (has Align1 gs) (p .0), p .1) ];
 }
 
+-- a lock ahead of other signs
 grows-locked : (gs : List Sign) (s : RateSet) (k : ℕ) (w : Window) → ((v : Window) → Grows s k gs v (window-all gs s k v)) →
     (b : Bool) → in-time s k w ≡ b → Grows s k (Locked ∷ gs) w (window-all gs s k (cond (in-time s k w) (locked-window w) w))
 grows-locked gs s k w rest true e = subst (λ z. Grows s k (Locked ∷ gs) w (window-all gs s k z)) (sym (cond-true (in-time s k w) (locked-window w) w e))
@@ -76,6 +79,7 @@ grows-locked gs s k w rest true e = subst (λ z. Grows s k (Locked ∷ gs) w (wi
 grows-locked gs s k w rest false e = subst (λ z. Grows s k (Locked ∷ gs) w (window-all gs s k z)) (sym (cond-false (in-time s k w) (locked-window w) w e))
     (grows-more Locked gs s k w (window-all gs s k w) (rest w))
 
+-- an ALIGN(1) ahead of other signs
 grows-align : (gs : List Sign) (s : RateSet) (k : ℕ) (w : Window) → ((v : Window) → Grows s k gs v (window-all gs s k v)) →
     (b : Bool) → w .locked ≡ b → Grows s k (Align1 ∷ gs) w (window-all gs s k (cond (w .locked) (aligned-window w) w))
 grows-align gs s k w rest true e = subst (λ z. Grows s k (Align1 ∷ gs) w (window-all gs s k z)) (sym (cond-true (w .locked) (aligned-window w) w e))
@@ -92,6 +96,7 @@ grows-align gs s k w rest true e = subst (λ z. Grows s k (Align1 ∷ gs) w (win
 grows-align gs s k w rest false e = subst (λ z. Grows s k (Align1 ∷ gs) w (window-all gs s k z)) (sym (cond-false (w .locked) (aligned-window w) w e))
     (grows-more Align1 gs s k w (window-all gs s k w) (rest w))
 
+-- so the signs of a tick let a window grow only
 pub grows : (gs : List Sign) (s : RateSet) (k : ℕ) (w : Window) → Grows s k gs w (window-all gs s k w)
 grows [] s k w = grows-none s k w
 grows (Nothing ∷ gs) s k w = grows-more Nothing gs s k w (window-all gs s k w) (grows gs s k w)
@@ -124,16 +129,19 @@ aligns (Locked ∷ gs) s k w h l =
 aligns (Align1 ∷ gs) s k w h l =
     subst (λ z. window-all gs s k z .aligned ≡ true) (sym (cond-true (w .locked) (aligned-window w) w l)) (grows gs s k (aligned-window w) .align-stays refl)
 
+-- whether an end sends ALIGN(1)
 abbrev pub is-align1 : Activity → Bool
 is-align1 Idle = false
 is-align1 Burst = false
 is-align1 sends.Align0 = false
 is-align1 sends.Align1 = true
 
+-- it does not before a lock has counted
 not-align1 : (b : Bool) → is-align1 (cond b sends.Align0 Idle) ≡ false
 not-align1 true = refl
 not-align1 false = refl
 
+-- a window as it opens
 abbrev pub fresh-window : Rate → Bool → Bool → Window
 fresh-window r last av = record { rate = r; last = last; follows = av; locked = false; aligned = false }
 
@@ -145,6 +153,7 @@ module _ (h : ℕ → List Sign) (s : RateSet) (o : ℕ) (w : Window) (fresh : w
   current zero = w
   current (suc k) = window-all (h (suc (o + k))) s (suc k) (current k)
 
+  -- from where it opens the end is in it for 328,640 ticks
   pub window-stage : (k : ℕ) → k < 328640 → In h s (o + k) Negotiating k (current k)
   unfolding current
   window-stage zero _ = rw (add-zero o) opens
@@ -152,33 +161,40 @@ module _ (h : ℕ → List Sign) (s : RateSet) (o : ℕ) (w : Window) (fresh : w
       (step h s (o + k) Negotiating Negotiating k (suc k) (current k) (current (suc k)) (window-stage k (omega arith))
       (window-step (h (suc (o + k))) s k (ears h (o + k)) (current k) lt))
 
+  -- from tick to tick the window grows
   pub grown : (k : ℕ) → Grows s (suc k) (h (suc (o + k))) (current k) (current (suc k))
   unfolding current
   grown k = grows (h (suc (o + k))) s (suc k) (current k)
 
+  -- its rate stays
   pub open-rate : (k : ℕ) → current k .rate ≡ w .rate
   unfolding current
   open-rate zero = refl
   open-rate (suc k) = grown k .rate ∙ open-rate k
 
+  -- it stays the final one or not
   pub open-last : (k : ℕ) → current k .last ≡ w .last
   unfolding current
   open-last zero = refl
   open-last (suc k) = grown k .last ∙ open-last k
 
+  -- and what it knows of the one before stays
   pub open-valid-before : (k : ℕ) → current k .follows ≡ w .follows
   unfolding current
   open-valid-before zero = refl
   open-valid-before (suc k) = grown k .valid-before ∙ open-valid-before k
 
+  -- a lock stays
   pub locked-stays : (k j : ℕ) → current k .locked ≡ true → current (k + j) .locked ≡ true
   locked-stays k zero e = rw (add-zero k) e
   locked-stays k (suc j) e = rw (add-suc k j) (grown (k + j) .lock-stays (locked-stays k j e))
 
+  -- a valid window stays valid
   pub aligned-stays : (k j : ℕ) → current k .aligned ≡ true → current (k + j) .aligned ≡ true
   aligned-stays k zero e = rw (add-zero k) e
   aligned-stays k (suc j) e = rw (add-suc k j) (grown (k + j) .align-stays (aligned-stays k j e))
 
+  -- only at a supported rate is there a lock
   supported : (k : ℕ) → current k .locked ≡ true → supports s (w .rate) ≡ true
   unfolding current
   supported zero e = absurd (both-ways (w .locked) fresh e)
@@ -218,12 +234,14 @@ module _ (h : ℕ → List Sign) (s : RateSet) (o : ℕ) (w : Window) (fresh : w
     | inr p ↦ (k, (omega arith, p .0, p .1))
   ]
 
+  -- a lock noted in time counts
   pub lock-noted : (k : ℕ) → supports s (w .rate) ≡ true → 960 ≤ suc k → suc k ≤ 314385 → has Locked (h (suc (o + k))) ≡ true → current (suc k) .locked ≡ true
   unfolding current
   lock-noted k sup ge le n = locks (h (suc (o + k))) s (suc k) (current k) n
       (and-from (supports s (current k .rate)) (leb 960 (suc k) && leb (suc k) 314385) (ap (supports s) (open-rate k) ∙ sup)
       (and-from (leb 960 (suc k)) (leb (suc k) 314385) (le-leb 960 (suc k) ge) (le-leb (suc k) 314385 le)))
 
+  -- an ALIGN(1) noted after a lock makes the window valid
   pub align-noted-valid : (k : ℕ) → current k .locked ≡ true → has Align1 (h (suc (o + k))) ≡ true → current (suc k) .aligned ≡ true
   unfolding current
   align-noted-valid k l n = aligns (h (suc (o + k))) s (suc k) (current k) n l
@@ -255,15 +273,19 @@ module _ (h : ℕ → List Sign) (s : RateSet) (o : ℕ) (w : Window) (fresh : w
   closing p v e = subst (λ z. In h s z p 0 v) (sym (add-suc o 328639))
       (step h s (o + 328639) Negotiating p 328639 0 (current 328639) v (window-stage 328639 (omega arith)) e)
 
+  -- whether the window was valid when it closed
   abbrev valid : Bool
   valid = current 328639 .aligned
 
+  -- the detector as the last tick leaves it
   abbrev last-detector : Detector
   last-detector = passed (ears h (o + 328639))
 
+  -- the end before the transition of the last tick
   abbrev last-end : End
   last-end = make s Negotiating 328640 last-detector (current 328639)
 
+  -- what follows is a window: its first signs change nothing of it
   reopened : (r : Rate) (last av : Bool) → closed-window last-end ≡ make s Negotiating 0 last-detector (fresh-window r last av) →
       In h s (o + 328640) Negotiating 0 (fresh-window r last av)
   reopened r last av e = closing Negotiating (fresh-window r last av)
@@ -281,33 +303,40 @@ module _ (h : ℕ → List Sign) (s : RateSet) (o : ℕ) (w : Window) (fresh : w
       (cond (past-highest s (current 328639 .rate)) (make s Failed 0 last-detector (current 328639))
       (make s Negotiating 0 last-detector (fresh-window (next-rate (current 328639 .rate)) false false))))) (open-last 328639 ∙ e)
 
+  -- a valid final window gives ready
   pub closes-ready : w .last ≡ true → valid ≡ true → In h s (o + 328640) Ready 0 (current 328639)
   closes-ready l v = closing Ready (current 328639)
       (ap (all-signed (h (suc (o + 328639)))) (simp (open-last 328639, l, v)) ∙ signs-other (h (suc (o + 328639))) s Ready 0 last-detector (current 328639) refl refl)
 
+  -- an invalid final window gives failed
   pub closes-failed : w .last ≡ true → valid ≡ false → In h s (o + 328640) Failed 0 (current 328639)
   closes-failed l v = closing Failed (current 328639)
       (ap (all-signed (h (suc (o + 328639)))) (simp (open-last 328639, l, v)) ∙ signs-other (h (suc (o + 328639))) s Failed 0 last-detector (current 328639) refl refl)
 
+  -- a valid window is followed by the next rate
   pub closes-valid : w .last ≡ false → valid ≡ true → In h s (o + 328640) Negotiating 0 (fresh-window (next-rate (w .rate)) false true)
   closes-valid l v = reopened (next-rate (w .rate)) false true (not-last l ∙ simp (v, open-rate 328639))
 
+  -- an invalid one after a valid one is followed by the final one
   pub closes-back : w .last ≡ false → valid ≡ false → w .follows ≡ true →
       In h s (o + 328640) Negotiating 0 (fresh-window (previous-rate (w .rate)) true false)
   closes-back l v a = reopened (previous-rate (w .rate)) true false (not-last l ∙ simp (v, open-valid-before 328639, a, open-rate 328639))
 
+  -- an invalid one above the highest rate gives failed
   pub closes-gives-up : w .last ≡ false → valid ≡ false → w .follows ≡ false → past-highest s (w .rate) ≡ true →
       In h s (o + 328640) Failed 0 (current 328639)
   closes-gives-up l v a p = closing Failed (current 328639)
       (ap (all-signed (h (suc (o + 328639)))) (not-last l ∙ simp (v, open-valid-before 328639, a, open-rate 328639, p))
       ∙ signs-other (h (suc (o + 328639))) s Failed 0 last-detector (current 328639) refl refl)
 
+  -- any other is followed by the next rate
   pub closes-next : w .last ≡ false → valid ≡ false → w .follows ≡ false → past-highest s (w .rate) ≡ false →
       In h s (o + 328640) Negotiating 0 (fresh-window (next-rate (w .rate)) false false)
   closes-next l v a p = reopened (next-rate (w .rate)) false false (not-last l ∙ simp (v, open-valid-before 328639, a, open-rate 328639, p))
 
 -- an end that is ready or failed stays so
 module _ (h : ℕ → List Sign) (s : RateSet) (t : ℕ) (w : Window) where
+  -- ready is for good
   pub ready-stays : (k : ℕ) → In h s t Ready k w → (j : ℕ) → (n : ℕ) × In h s (t + j) Ready n w
   ready-stays k e zero = (k, rw (add-zero t) e)
   ready-stays k e (suc j) =
@@ -317,6 +346,7 @@ module _ (h : ℕ → List Sign) (s : RateSet) (t : ℕ) (w : Window) where
             (signs-other (h (suc (t + j))) s Ready (later n) (passed (ears h (t + j))) w refl refl)),
       )
 
+  -- failed is for good
   pub failed-stays : (k : ℕ) → In h s t Failed k w → (j : ℕ) → (n : ℕ) × In h s (t + j) Failed n w
   failed-stays k e zero = (k, rw (add-zero t) e)
   failed-stays k e (suc j) =
