@@ -17,19 +17,24 @@ use Rattle.bringup.specs.Detection.{passed, longer}
 use Rattle.bringup.specs.Bringup.{tick, ticks, settled, aged, later, signalled, awaited, awaited-fall, entered, opened, closed-window}
 use Rattle.bringup.specs.Skipping.{capped, rested, skipped, detector-calm, phase-calm}
 
+-- so many ticks and then others are their sum
 pub ticks-add : (a b : ℕ) (e : End) → ticks (a + b) e ≡ ticks a (ticks b e)
 ticks-add zero b e = ap (λ n. ticks n e) (zero-add b)
 ticks-add (suc a) b e = ap (λ n. ticks n e) (let z : suc a + b ≡ suc (a + b) = omega arith in z) ∙ ap tick (ticks-add a b e)
 
+-- counting nothing changes nothing
 capped-none : (cap n : ℕ) → capped cap n 0 ≡ n
 capped-none cap n = grind (arith, tells)
 
+-- one more tick of a phase counts one further, up to the cap
 later-capped : (n k : ℕ) → later (capped 328640 n k) ≡ capped 328640 n (suc k)
 later-capped n k = grind (arith, tells)
 
+-- and so does one more tick of an idle
 longer-capped : (n k : ℕ) → longer (capped 4725 n k) ≡ capped 4725 n (suc k)
 longer-capped n k = grind (arith, tells)
 
+-- a count that stays below a bound by so much stays below it over so many ticks
 capped-below : (cap n k m : ℕ) → suc k ≤ m - n → m < cap → capped cap n (suc k) ≤ m
 capped-below cap n k m h l = grind (arith, tells)
 
@@ -45,11 +50,13 @@ heard-so-far n f d = record {
   fallen = f;
 }
 
+-- nothing falls while the idle is short of 4,725
 fallen-as-before : (c f : Bool) (i : ℕ) → (c ≡ true → f ≡ false → i < 4725) → cond (c && leb 4725 i) true f ≡ f
 fallen-as-before true true i h = cond-both (leb 4725 i) true true (λ z. z ≡ true) (λ _. refl) (λ _. refl)
 fallen-as-before true false i h = cond-false (leb 4725 i) true false (lt-leb 4725 i (h refl refl))
 fallen-as-before false f i h = refl
 
+-- a calm detector only counts its idle
 passed-rested : (k : ℕ) (d : Detector) → suc k ≤ detector-calm d → passed (rested k d) ≡ rested (suc k) d
 passed-rested k d le = go (d .burst) refl
   where
@@ -65,6 +72,7 @@ passed-rested k d le = go (d .burst) refl
             let c : detector-calm d ≡ 4724 - d .idle = rw (e, p, q) in
             omega (arith, capped-below 4725 (d .idle) k 4724 (subst (λ z. suc k ≤ z) c le) (omega arith))
 
+-- so what it has detected stays the same
 rested-signalled : (k : ℕ) (d : Detector) → signalled (rested k d) ≡ signalled d
 rested-signalled k d = cond-both (d .burst) d (record {
   idle = capped 4725 (d .idle) k;
@@ -77,9 +85,11 @@ rested-signalled k d = cond-both (d .burst) d (record {
 })
     (λ z. signalled z ≡ signalled d) (λ _. refl) (λ _. refl)
 
+-- and what has fallen
 rested-fallen : (k : ℕ) (d : Detector) → rested k d .fallen ≡ d .fallen
 rested-fallen k d = grind (arith, tells)
 
+-- and whether COMSAS is detected
 rested-comsas : (k : ℕ) (d : Detector) → rested k d .comsas ≡ d .comsas
 rested-comsas k d = grind (arith, tells)
 
@@ -123,6 +133,7 @@ nothing-due Negotiating k e h =
 nothing-due Ready k e h = refl
 nothing-due Failed k e h = refl
 
+-- no ticks skip nothing
 skipped-none : (e : End) → e ≡ skipped 0 e
 skipped-none e = go (e .detector .burst) refl
   where
@@ -130,6 +141,7 @@ skipped-none e = go (e .detector .burst) refl
     go true q = rw (q, capped-none 328640 (e .elapsed))
     go false q = rw (q, capped-none 328640 (e .elapsed), capped-none 4725 (e .detector .idle))
 
+-- so many ticks in which nothing comes due are one skip
 pub calm-ticks : (k : ℕ) (e : End) → k ≤ detector-calm (e .detector) → k ≤ phase-calm (e .phase) e → ticks k e ≡ skipped k e
 calm-ticks zero e d p = skipped-none e
 calm-ticks (suc k) e d p =

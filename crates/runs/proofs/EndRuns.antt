@@ -10,15 +10,18 @@ use Rattle.agreement.specs.FairLine.{Call, Courses, called, all-called}
 use Rattle.runs.specs.declared.ends.EndCall.{EndCall}
 use Rattle.runs.specs.EndRuns.{meant, answered-in, all-answers}
 
+-- calls and then others
 all-called-append : (xs ys : List Call) (c : Courses) → all-called (xs ++ ys) c ≡ all-called ys (all-called xs c)
 all-called-append [] ys c = refl
 all-called-append (x ∷ xs) ys c = all-called-append xs ys (called x c)
 
+-- their answers are answers and then others
 all-answers-append : (xs ys : List EndCall) (c : Courses) → all-answers (xs ++ ys) c ≡ all-answers xs c ++ all-answers ys (all-called (map meant xs) c)
 all-answers-append [] ys c = refl
 all-answers-append (x ∷ xs) ys c = ap (λ (l : List (Result Unit Refusal)). answered-in x c ∷ l) (all-answers-append xs ys (called (meant x) c))
 
 module _ (calls : List EndCall) (i : ℕ) (z : EndCall) (c : Courses) (lt : i < length calls) where
+  -- the courses after the first i calls
   abbrev so-far : Courses
   so-far = all-called (map meant (take i calls)) c
 
