@@ -10,7 +10,7 @@ tested : (ch d : ℕ) (c : Code) (r : Bool) → d < 2 → OnlyCode ch c → r �
 tested ch d c r h only e = ap (λ (q : Bool). cond q (Some c) None) e ∙ sym (decoded_is ch d c h only)
 
 pub returns-then-stands : goal.returns-then-stands
-returns-then-stands c = tested c.args.character c.args.disparity c.only-code-code.result true c.requires.1 c.only-code-code.ensures c.if-stands.ensures
+returns-then-stands c = tested c.args.character c.args.disparity c.only_code-code.result true c.requires.1 c.only_code-code.ensures c.if-stands.ensures
 
 pub returns-else-stands : goal.returns-else-stands
-returns-else-stands c = tested c.args.character c.args.disparity c.only-code-code.result false c.requires.1 c.only-code-code.ensures c.if-stands.ensures
+returns-else-stands c = tested c.args.character c.args.disparity c.only_code-code.result false c.requires.1 c.only_code-code.ensures c.if-stands.ensures
