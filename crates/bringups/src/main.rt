@@ -1,5 +1,7 @@
 // Brings an end up so many times: 'bringups 1000'. The other end's signals, locks and ALIGN(1) are noted as a drive of
 // all rates would give them. It prints how many came up and the sum of their rates; `bench/run` times it.
+#![tactic(auto)]
+
 use anyhow::Context;
 use bringup::end::{End, Outcome};
 use bringup::signal::Signal;

@@ -1,6 +1,8 @@
 // Holds the code against a table from standard input: a heading, then on each line a code's name, its kind, its byte in
 // hexadecimal, and its characters at minus and at plus in binary, with a tab between. Every code of the table is encoded,
 // and every number of ten bits decoded, in both columns. What differs is printed, and at the end a summary.
+#![tactic(auto)]
+
 use code::{DecodeRefusal, decode, encode, examples_hold};
 use std::io;
 

@@ -1,4 +1,6 @@
 // Examples of what the library does, run as tests.
+#![tactic(auto)]
+
 #[cfg(test)]
 mod collecting;
 #[cfg(test)]

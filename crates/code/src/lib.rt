@@ -1,4 +1,6 @@
 // The 8b10b character code: ten-bit characters for the data bytes and two special codes, and back.
+#![tactic(auto)]
+
 mod character;
 mod tables;
 

@@ -1,4 +1,6 @@
 // Lines over borrowed memory.
+#![tactic(auto)]
+
 mod capacity;
 pub mod packed_line;
 pub mod word_line;

@@ -1,5 +1,7 @@
 // Reads a recording from standard input and prints what is heard in it, a line each. A recording that cannot be opened
 // gives one line that says why. A failing read or write, and want of memory, end the program with status 1.
+#![tactic(auto)]
+
 use anyhow::anyhow;
 use listening::text::{ListenFault, listen};
 use std::io::Read;

@@ -6,6 +6,8 @@
 //     second 30000 3 2000
 //
 // It prints each window and the outcomes, and then what the same calls come to through the driver that carries the law.
+#![tactic(auto)]
+
 use anyhow::{Context, anyhow};
 use bringup::end::{Activity, End, Outcome};
 use runs::ends::{EndAnswer, EndCall, EndStep, WhichEnd, run_ends};

@@ -1,4 +1,6 @@
 // Drivers that make any list of calls and give every answer; their contracts are the laws over whole runs.
+#![tactic(auto)]
+
 pub mod ends;
 pub mod lent;
 pub mod links;

@@ -1,5 +1,7 @@
 // Sends characters through a line and takes their bits again, so many rounds: 'through packed 1000' or 'through word 1000'.
 // It prints how many bits went through and how many of them were ones; `bench/run` times it.
+#![tactic(auto)]
+
 use anyhow::Context;
 use line::tap::{Line, Tap};
 use lines::packed_line::PackedLine;

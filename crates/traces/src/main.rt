@@ -1,6 +1,8 @@
 // Replays traces of calls from standard input and compares every answer. A trace of an end begins with a line '# call',
 // and each of its lines has a call, its arguments, its refusal (0 for none), and what the end then says of itself. A trace
 // of a link begins with '# capacity N, sender opened at D', and is replayed on both kinds of lines.
+#![tactic(auto)]
+
 use anyhow::Context;
 use bringup::end::{Activity, End, Outcome};
 use code::encode;

@@ -5,11 +5,11 @@ use Rattle.code.specs.declared.character.Encoded.{Encoded}
 use Rattle.code.proofs.Halves.{middle_is, after_halves}
 use Rattle.code.proofs.character.data_character.Goals as goal
 
-pub four-after-six-four-requires : goal.four-after-six-four-requires
-four-after-six-four-requires c =
+pub four_after_six-four-requires : goal.four_after_six-four-requires
+four_after_six-four-requires c =
     let l : c.args.byte % 32 < 32 = omega arith in
     let h : c.args.byte / 32 < 8 = omega arith in
-    (h, (middle_is (c.args.byte % 32) c.args.disparity c.six-half-six.result c.after-six-middle.result l c.requires c.six-half-six.ensures.0 c.after-six-middle.ensures).1)
+    (h, (middle_is (c.args.byte % 32) c.args.disparity c.six_half-six.result c.after_six-middle.result l c.requires c.six_half-six.ensures.0 c.after_six-middle.ensures).1)
 
 pub returns : goal.returns
 unfolding data_character

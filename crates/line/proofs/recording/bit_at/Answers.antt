@@ -5,6 +5,6 @@ use Rattle.line.proofs.recording.bit_at.Goals as goal
 pub returns : goal.returns
 returns c =
     record {
-      place = c.bit-of.ensures ∙ sym (place_bit c.args.block.now c.requires.0 c.args.place c.requires.1);
-      bit = omega (arith, c.bit-of.ensures);
+      place = c.bit_of.ensures ∙ sym (place_bit c.args.block.now c.requires.0 c.args.place c.requires.1);
+      bit = omega (arith, c.bit_of.ensures);
     }

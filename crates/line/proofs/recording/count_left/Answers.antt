@@ -5,7 +5,7 @@ use Rattle.line.proofs.recording.count_left.Goals as goal
 
 pub loop-at-preserved : goal.loop-at-preserved
 loop-at-preserved c =
-    let block = c.record-at in
+    let block = c.record_at in
     let step = length_left (records c.args.bytes.now) c.loop-at.at block.result.now (omega arith) block.ensures.block c.loop-at.gone in
     (omega arith, omega arith)
 

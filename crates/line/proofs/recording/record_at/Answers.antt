@@ -2,14 +2,14 @@ use Rattle.std.proofs.Common.{◌+◌, ◌-◌, ◌*◌, length, ap, ◌∙◌, 
 use Rattle.line.proofs.Recordings.{length_records, record_bytes, length_record}
 use Rattle.line.proofs.recording.record_at.Goals as goal
 
-pub overflow-mul-start : goal.overflow-mul-start
-overflow-mul-start c = let n = length_records c.args.bytes.now in search rules
+pub overflow_mul-start : goal.overflow_mul-start
+overflow_mul-start c = let n = length_records c.args.bytes.now in search rules
 
-pub overflow-add-result : goal.overflow-add-result
-overflow-add-result c = let n = length_records c.args.bytes.now in search rules
+pub overflow_add-result : goal.overflow_add-result
+overflow_add-result c = let n = length_records c.args.bytes.now in search rules
 
-pub slice-bounds-result-end : goal.slice-bounds-result-end
-slice-bounds-result-end c = omega (arith, length_records c.args.bytes.now)
+pub slice_bounds-result-end : goal.slice_bounds-result-end
+slice_bounds-result-end c = omega (arith, length_records c.args.bytes.now)
 
 pub returns : goal.returns
 returns c =

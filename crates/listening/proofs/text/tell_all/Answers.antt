@@ -14,22 +14,22 @@ one_turn : (g : given.Over) (c : In-ok-tell-dwords g)
     → Turn c.hearing.receiver.state c.collect-collected.new.receiver.state
     (g.T.Tap.meaning c.hearing.tap).waiting (g.T.Tap.meaning c.collect-collected.new.tap).waiting
     c.collect-collected.result.bits c.collect-collected.result.stop
-    (string_bytes c.hearing.text) (string_bytes c.tell-dwords.new.text)
+    (string_bytes c.hearing.text) (string_bytes c.tell_dwords.new.text)
 one_turn g c =
     let l = c.hearing in
     let r = c.collect-collected in
     turn l.receiver.state r.new.receiver.state (g.T.Tap.meaning l.tap).waiting (g.T.Tap.meaning r.new.tap).waiting
-    18446744073709551615 r.result.bits r.result.stop (string_bytes l.text) (string_bytes c.tell-reports.new.text) (string_bytes c.tell-dwords.new.text)
+    18446744073709551615 r.result.bits r.result.stop (string_bytes l.text) (string_bytes c.tell_reports.new.text) (string_bytes c.tell_dwords.new.text)
     l.dwords r.new.dwords l.reports r.new.reports l.invariant.3.0 l.invariant.3.1 l.invariant.4.0 l.invariant.4.1
-    (lit< tt) r.ensures.collects r.ensures.gone c.in-ok-tell-reports.ensures.text c.in-ok-tell-dwords.ensures.text
+    (lit< tt) r.ensures.collects r.ensures.gone c.in_ok-tell_reports.ensures.text c.in_ok-tell_dwords.ensures.text
 
 pub hearing-preserved : goal.hearing-preserved
 hearing-preserved g c =
     let t = one_turn g (at·hearing-again g c).In-ok-tell-dwords in
     let l = c.hearing in
     let r = c.collect-collected in
-    let told-dwords = c.in-ok-tell-dwords.ensures in
-    let told-reports = c.in-ok-tell-reports.ensures in (
+    let told-dwords = c.in_ok-tell_dwords.ensures in
+    let told-reports = c.in_ok-tell_reports.ensures in (
       omega (arith, t.count, l.invariant.0),
       t.lines ∙ l.invariant.1,
       omega (arith, t.shorter, l.invariant.2),
@@ -41,8 +41,8 @@ hearing-preserved g c =
 ended : (text text' lines : List ℕ) → text' ++ lines ≡ text → lines ≡ [] → text' ≡ text
 ended text text' lines e n = sym (append-nil text') ∙ (sym (ap (λ (x : List ℕ). text' ++ x) n) ∙ e)
 
-pub overflow-sub-result : goal.overflow-sub-result
-overflow-sub-result g c =
+pub overflow_sub-result : goal.overflow_sub-result
+overflow_sub-result g c =
     let t = one_turn g (at·sub-result g c).In-ok-tell-dwords in
     omega (arith, t.shorter, c.hearing.invariant.2, c.count.ensures, c.count-before.ensures)
 
@@ -56,8 +56,8 @@ returns-in-Dry g c =
       taken = omega (arith, t.count, c.hearing.invariant.0, ap (taken s) none, ap length none, c.count.ensures, c.count-before.ensures);
     }
 
-pub overflow-sub-result-in-Declined : goal.overflow-sub-result-in-Declined
-overflow-sub-result-in-Declined g c =
+pub overflow_sub-result-in-Declined : goal.overflow_sub-result-in-Declined
+overflow_sub-result-in-Declined g c =
     let t = one_turn g (at·sub-result-in-Declined g c).In-ok-tell-dwords in
     omega (arith, t.shorter, c.hearing.invariant.2, c.count-in-Declined.ensures, c.count-before.ensures)
 
@@ -74,4 +74,4 @@ returns-in-Declined g c =
 pub hearing-smaller : goal.hearing-smaller
 hearing-smaller g c =
     let t = one_turn g (at·hearing-less g c).In-ok-tell-dwords in
-    omega (arith, t.shorter, t.more c.in-default.not-Dry c.in-default.not-Declined)
+    omega (arith, t.shorter, t.more c.in_default.not-Dry c.in_default.not-Declined)

@@ -12,6 +12,6 @@ loop-dword-preserved c =
     let first = line (dword_text c.in-Some.dword) in
     let whole = string_bytes c.args.text.now ++ dword_lines (elements c.args.dwords.now) in (
       told_next dword_lines first (string_bytes l.text) (string_bytes c.writeln.new.self) whole (elements l.dwords) (elements c.pop.new.self)
-          (ap dword_lines popped.0) c.in-ok-writeln.ensures.bytes l.invariant.0,
+          (ap dword_lines popped.0) c.in_ok-writeln.ensures.bytes l.invariant.0,
       popped.1 ∙ l.invariant.1,
     )

@@ -12,6 +12,6 @@ loop-report-preserved c =
     let first = line (report_text c.in-Some.report) in
     let whole = string_bytes c.args.text.now ++ report_lines (elements c.args.reports.now) in (
       told_next report_lines first (string_bytes l.text) (string_bytes c.writeln.new.self) whole (elements l.reports) (elements c.pop.new.self)
-          (ap report_lines popped.0) c.in-ok-writeln.ensures.bytes l.invariant.0,
+          (ap report_lines popped.0) c.in_ok-writeln.ensures.bytes l.invariant.0,
       popped.1 ∙ l.invariant.1,
     )

@@ -18,15 +18,15 @@ returns-then-room-eq0 g c =
     let full : 0 < length bits → _ = λ some. dwords_full most (room_of l.dwords) (room_of l.reports) s bits some (omega arith) (omega arith) in
     let e = or_dry most (room_of l.dwords) (room_of l.reports) s DwordsFull bits full in
     record {
-      collects = completes_last _ _ l.bits c.stop-at.result.bits c.args.dwords.now l.dwords c.args.reports.now l.reports _ c.stop-at.result.stop s bits l.invariant.2 e c.stop-at.ensures.bits c.stop-at.ensures.stop;
-      gone = omega (arith, c.stop-at.ensures.bits, l.invariant.0);
+      collects = completes_last _ _ l.bits c.stop_at.result.bits c.args.dwords.now l.dwords c.args.reports.now l.reports _ c.stop_at.result.stop s bits l.invariant.2 e c.stop_at.ensures.bits c.stop_at.ensures.stop;
+      gone = omega (arith, c.stop_at.ensures.bits, l.invariant.0);
       capacity = l.invariant.1;
     }
 
-pub returns-then-room-lt-LEAST-PLACES : goal.returns-then-room-lt-LEAST-PLACES
-returns-then-room-lt-LEAST-PLACES g c =
+pub returns-then-room-lt-LEAST_PLACES : goal.returns-then-room-lt-LEAST_PLACES
+returns-then-room-lt-LEAST_PLACES g c =
     let l = c.loop-bits in
-    let r = c.stop-at-then-room-lt-LEAST-PLACES in
+    let r = c.stop_at-then-room-lt-LEAST_PLACES in
     let most = c.args.most - l.bits in
     let s = l.receiver.state in
     let bits = (g.T.Tap.meaning l.tap).waiting in
@@ -41,7 +41,7 @@ returns-then-room-lt-LEAST-PLACES g c =
 pub returns-in-Dry : goal.returns-in-Dry
 returns-in-Dry g c =
     let l = c.loop-bits in
-    let r = c.stop-at-in-Dry in
+    let r = c.stop_at-in-Dry in
     let s = l.receiver.state in
     let tap = g.T.Tap.meaning l.tap in
     let next = c.hear.new.self.state in
@@ -60,7 +60,7 @@ returns-in-Dry g c =
 pub returns-in-Err : goal.returns-in-Err
 returns-in-Err g c =
     let l = c.loop-bits in
-    let r = c.stop-at-in-Err in
+    let r = c.stop_at-in-Err in
     let most = c.args.most - l.bits in
     let s = l.receiver.state in
     let tap = g.T.Tap.meaning l.tap in
@@ -89,19 +89,19 @@ loop-bits-preserved g c =
     let next = c.hear.new.self.state in
     let heard = c.in-Ok.heard in
     let told = c.in-Ok.ensures in
-    let t = took l.receiver.state tap heard next rest c.in-default.not-Dry told.answer told.state told.tap in
-    let d₁ = c.keep-dword.new.dwords in
-    let p₁ = c.keep-reports.new.reports in
-    let e = one_more (c.args.most - l.bits) (room_of l.dwords) (room_of l.reports) l.receiver.state tap heard next rest (c.args.most - (l.bits + 1)) (room_of d₁) (room_of p₁) t (omega arith) (omega arith) (omega arith) (omega arith) c.keep-dword.ensures.room c.keep-reports.ensures.room in (
+    let t = took l.receiver.state tap heard next rest c.in_default.not-Dry told.answer told.state told.tap in
+    let d₁ = c.keep_dword.new.dwords in
+    let p₁ = c.keep_reports.new.reports in
+    let e = one_more (c.args.most - l.bits) (room_of l.dwords) (room_of l.reports) l.receiver.state tap heard next rest (c.args.most - (l.bits + 1)) (room_of d₁) (room_of p₁) t (omega arith) (omega arith) (omega arith) (omega arith) c.keep_dword.ensures.room c.keep_reports.ensures.room in (
       omega (arith, l.invariant.0, ap (λ (m : Meaning). length m.waiting) t.tap_was),
       sym (ap (λ (m : Meaning). m.capacity) t.tap_was) ∙ l.invariant.1,
-      completes_more _ _ _ l.bits c.args.dwords.now l.dwords d₁ c.args.reports.now l.reports p₁ heard l.invariant.2 e c.keep-dword.ensures c.keep-reports.ensures,
+      completes_more _ _ _ l.bits c.args.dwords.now l.dwords d₁ c.args.reports.now l.reports p₁ heard l.invariant.2 e c.keep_dword.ensures c.keep_reports.ensures,
     )
 
 pub returns : goal.returns
 returns g c =
     let l = c.loop-bits in
-    let r = c.stop-at-2 in
+    let r = c.stop_at-2 in
     let most = c.args.most - l.bits in
     let s = l.receiver.state in
     let bits = (g.T.Tap.meaning l.tap).waiting in

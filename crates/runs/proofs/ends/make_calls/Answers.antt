@@ -20,11 +20,11 @@ loop-call-preserved c =
     let calls = c.args.calls.now in
     let i = l.call-index in
     let before : Courses = all_called (map meant (take i calls)) both_unused in
-    let made = c.call-end-answer.ensures in (
-      subst (λ after. Stand after c.call-end-answer.new.ends) (called_more calls i no_call both_unused c.loop-call-test.true) (made.ends before l.invariant.0),
-      ap (map answer_of) c.in-ok-push.ensures.items
-          ∙ (map-append answer_of (vec_items l.answers) (c.call-end-answer.result ∷ [])
-          ∙ (ap (λ (xs : List (Result Unit Refusal)). xs ++ (answer_of c.call-end-answer.result ∷ [])) l.invariant.1
+    let made = c.call_end-answer.ensures in (
+      subst (λ after. Stand after c.call_end-answer.new.ends) (called_more calls i no_call both_unused c.loop-call-test.true) (made.ends before l.invariant.0),
+      ap (map answer_of) c.in_ok-push.ensures.items
+          ∙ (map-append answer_of (vec_items l.answers) (c.call_end-answer.result ∷ [])
+          ∙ (ap (λ (xs : List (Result Unit Refusal)). xs ++ (answer_of c.call_end-answer.result ∷ [])) l.invariant.1
           ∙ (ap (λ (x : Result Unit Refusal). all_answers (take i calls) both_unused ++ (x ∷ [])) (made.answer before l.invariant.0)
           ∙ answered-more calls i no_call both_unused c.loop-call-test.true))),
     )

@@ -19,7 +19,7 @@ loop-i-preserved c =
     let calls = c.args.calls.now in
     let answers = l.answers in
     let i = l.i in
-    let made = c.call-end in
+    let made = c.call_end in
     let lt = c.loop-i-test.true in
     let room : i < length answers = omega arith in (
       subst (λ after. Stand after made.new.ends) (called_more calls i no_call both_unused lt) (made.ensures.ends (courses (take i calls)) l.invariant.0),

@@ -6,7 +6,7 @@ use Rattle.runs.proofs.links.run_from_empty.Goals as goal
 -- what the calls lead to is reached from an unused link, so all that is proved of such links holds
 pub returns : goal.returns
 returns g c =
-    let made = c.make-calls.ensures in
+    let made = c.make_calls.ensures in
     let reached = made.leads (nil_from_length _ c.requires.1) c.new-receiver.ensures in
     let capacity = (g.L.Tap.meaning c.args.line.now).capacity in
     let d = c.args.sender.now.disparity in

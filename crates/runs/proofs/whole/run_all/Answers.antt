@@ -5,11 +5,11 @@ use Rattle.runs.proofs.whole.run_all.Goals as goal
 -- each part promises its own laws; that senders opened alike agree is a law of the two histories
 pub returns : goal.returns
 returns g c =
-    let one = c.run-from-empty.ensures in
-    let other = c.run-from-empty-2.ensures in
-    let ends = c.make-calls-lent.ensures in
+    let one = c.run_from_empty.ensures in
+    let other = c.run_from_empty-2.ensures in
+    let ends = c.make_calls_lent.ensures in
     record {
-      agreement = c.ends-agree.ensures;
+      agreement = c.ends_agree.ensures;
       ends = ends.ends;
       answers = ends.answers;
       link = one.lawful;

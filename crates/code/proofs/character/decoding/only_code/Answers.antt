@@ -5,33 +5,33 @@ use Rattle.code.proofs.ProgramTables.{low_of_six, high_of_four}
 use Rattle.code.proofs.Codes.{only_code}
 use Rattle.code.proofs.character.decoding.only_code.Goals as goal
 
-pub overflow-mul-result : goal.overflow-mul-result
-overflow-mul-result c =
+pub overflow_mul-result : goal.overflow_mul-result
+overflow_mul-result c =
     let l : c.args.character % 16 < 16 = omega arith in
     omega (arith, small_entry 8 high_of_four tt (c.args.character % 16) l)
 
-pub overflow-add-result : goal.overflow-add-result
-overflow-add-result c =
+pub overflow_add-result : goal.overflow_add-result
+overflow_add-result c =
     let l : c.args.character % 16 < 16 = omega arith in
     omega (arith, small_entry 8 high_of_four tt (c.args.character % 16) l)
 
-pub overflow-mul-result-then-six-eq48 : goal.overflow-mul-result-then-six-eq48
-overflow-mul-result-then-six-eq48 c =
+pub overflow_mul-result-then-six-eq48 : goal.overflow_mul-result-then-six-eq48
+overflow_mul-result-then-six-eq48 c =
     let l : 15 - c.args.character % 16 < 16 = omega arith in
     omega (arith, small_entry 8 high_of_four tt (15 - c.args.character % 16) l)
 
-pub overflow-add-result-then-six-eq48 : goal.overflow-add-result-then-six-eq48
-overflow-add-result-then-six-eq48 c =
+pub overflow_add-result-then-six-eq48 : goal.overflow_add-result-then-six-eq48
+overflow_add-result-then-six-eq48 c =
     let l : 15 - c.args.character % 16 < 16 = omega arith in
     omega (arith, small_entry 8 high_of_four tt (15 - c.args.character % 16) l)
 
-pub overflow-mul-result-else-six-eq48 : goal.overflow-mul-result-else-six-eq48
-overflow-mul-result-else-six-eq48 c =
+pub overflow_mul-result-else-six-eq48 : goal.overflow_mul-result-else-six-eq48
+overflow_mul-result-else-six-eq48 c =
     let l : c.args.character % 16 < 16 = omega arith in
     omega (arith, small_entry 8 high_of_four tt (c.args.character % 16) l)
 
-pub overflow-add-result-else-six-eq48 : goal.overflow-add-result-else-six-eq48
-overflow-add-result-else-six-eq48 c =
+pub overflow_add-result-else-six-eq48 : goal.overflow_add-result-else-six-eq48
+overflow_add-result-else-six-eq48 c =
     let l : c.args.character % 16 < 16 = omega arith in
     let s : c.args.character / 16 < 64 = omega arith in
     omega (arith, small_entry 8 high_of_four tt (c.args.character % 16) l, small_entry 32 low_of_six tt (c.args.character / 16) s)

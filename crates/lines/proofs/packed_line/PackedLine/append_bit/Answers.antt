@@ -9,10 +9,10 @@ pub returns : goal.returns
 unfolding overwritten
 returns c =
     let s = c.args.self.now in
-    let t = c.set-bit.new.self in
-    let written = c.set-bit.ensures in
+    let t = c.set_bit.new.self in
+    let written = c.set_bit.ensures in
     let front : s.front < s.size = omega (arith, s.first, c.requires.0) in
-    let memory = written.bits ∙ ap (λ n. set (memory_bits s) n c.args.bit) c.ring-place-place.ensures in
+    let memory = written.bits ∙ ap (λ n. set (memory_bits s) n c.args.bit) c.ring_place-place.ensures in
     let joins = packed_push s.bytes.now s.size (size_within s) s.front s.count front t.bytes.now c.args.bit c.requires.0 memory in
     record {
       line =

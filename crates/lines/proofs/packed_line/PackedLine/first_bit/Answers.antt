@@ -12,6 +12,6 @@ returns c =
     let here : bit_place s 0 ≡ s.front = wrap_low s.size (s.front + 0) (omega arith) ∙ omega arith in
     let first = getd_packed s.bytes.now s.size (size_within s) s.front s.count front 0 s.fits c.requires in
     record {
-      first = c.bit-at.ensures.value ∙ sym (first ∙ ap (λ n. get_or (memory_bits s) n 0) here);
-      bit = c.bit-at.ensures.bit;
+      first = c.bit_at.ensures.value ∙ sym (first ∙ ap (λ n. get_or (memory_bits s) n 0) here);
+      bit = c.bit_at.ensures.bit;
     }

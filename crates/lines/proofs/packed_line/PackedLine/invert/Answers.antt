@@ -6,8 +6,8 @@ use Rattle.lines.proofs.PackedBits.{packed_set, getd_packed}
 use Rattle.lines.proofs.PackedLines.{size_within, length_waiting}
 use Rattle.lines.proofs.packed_line.PackedLine.invert.Goals as goal
 
-pub overflow-add-self : goal.overflow-add-self
-overflow-add-self c = let n = length_waiting c.args.self.now in search rules
+pub overflow_add-self : goal.overflow_add-self
+overflow_add-self c = let n = length_waiting c.args.self.now in search rules
 
 pub flip-requires : goal.flip-requires
 flip-requires c = let n = length_waiting c.args.self.now in search rules
@@ -20,7 +20,7 @@ returns c =
     let flipped = c.flip.ensures in
     let waits : p < s.count = omega (arith, length_waiting s) in
     let front : s.front < s.size = omega (arith, s.first, s.fits) in
-    let memory = flipped.bits ∙ ap (inverted (memory_bits s)) c.ring-place.ensures in
+    let memory = flipped.bits ∙ ap (inverted (memory_bits s)) c.ring_place.ensures in
     let turns = packed_set s.bytes.now s.size (size_within s) s.front s.count front t.bytes.now p (1 - get_or (memory_bits s) (bit_place s p) 0) s.fits waits memory in
     let old = getd_packed s.bytes.now s.size (size_within s) s.front s.count front p s.fits waits in
     record {

@@ -18,5 +18,5 @@ returns c =
     let all =
     leaves
     ∙ (ap (λ b. b ∷ packed_bits bytes s.size (wrap s.size (s.front + 1)) (s.count - 1)) first
-    ∙ ap (λ n. get_or (packed_bits bytes s.size s.front s.count) 0 0 ∷ packed_bits bytes s.size n (s.count - 1)) (sym c.ring-place-self.ensures)) in
+    ∙ ap (λ n. get_or (packed_bits bytes s.size s.front s.count) 0 0 ∷ packed_bits bytes s.size n (s.count - 1)) (sym c.ring_place-self.ensures)) in
     record { line = ap (λ bits. record { waiting = bits; capacity = s.size }) all; bytes = refl; lent = refl }

@@ -6,4 +6,4 @@ use Rattle.lines.proofs.packed_line.PackedLine.over.Goals as goal
 pub returns : goal.returns
 unfolding packed_bits cyclic
 returns c =
-    record { line = ap (λ n. record { waiting = []; capacity = n }) c.capacity-over.ensures; bytes = refl; lent = refl }
+    record { line = ap (λ n. record { waiting = []; capacity = n }) c.capacity_over.ensures; bytes = refl; lent = refl }

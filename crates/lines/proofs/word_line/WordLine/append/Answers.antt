@@ -7,10 +7,10 @@ use Rattle.lines.proofs.Meanings.{same_meaning, capacity_within}
 use Rattle.lines.proofs.WordLines.{room_for_one}
 use Rattle.lines.proofs.word_line.WordLine.append.Goals as goal
 
-pub invariant-of-self : goal.invariant-of-self
-invariant-of-self c =
+pub invariant_of-self : goal.invariant_of-self
+invariant_of-self c =
     let s = c.args.self.now in
-    let same = length-set s.words.now c.ring-place-place.result c.args.character in
+    let same = length-set s.words.now c.ring_place-place.result c.args.character in
     let room = room_for_one s c.requires in
     let size = ap (λ n. line_capacity (10 * n)) same in
     (omega (arith, s.first), (omega arith, (s.partial, (omega (arith, s.begun), tt))))
@@ -19,7 +19,7 @@ pub returns : goal.returns
 returns c =
     let s = c.args.self.now in
     let words = s.words.now in
-    let place = c.ring-place-place in
+    let place = c.ring_place-place in
     let room = room_for_one s c.requires in
     let within = capacity_within (10 * length words) in
     let joins = character_joins words s.front s.held s.gone (omega (arith, s.first)) c.args.character (omega arith) (omega (arith, s.begun)) in

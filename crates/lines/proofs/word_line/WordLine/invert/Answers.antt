@@ -8,15 +8,15 @@ use Rattle.lines.proofs.WordLines.{held_within, front_within, waiting_held, plac
 use Rattle.lines.proofs.word_line.WordLine.invert.Goals as goal
 use Rattle.lines.proofs.word_line.WordLine.invert.Goals.{After-ring-place-at}
 
-pub overflow-add-bit : goal.overflow-add-bit
-overflow-add-bit c = let held = waiting_held c.args.self.now c.args.place c.requires in search rules
+pub overflow_add-bit : goal.overflow_add-bit
+overflow_add-bit c = let held = waiting_held c.args.self.now c.args.place c.requires in search rules
 
 -- The word of the bit is one of the ring.
-within : (c : After-ring-place-at) → c.ring-place-at.result < length c.args.self.now.words.now
+within : (c : After-ring-place-at) → c.ring_place-at.result < length c.args.self.now.words.now
 within c =
     let s = c.args.self.now in
     let held = waiting_held s c.args.place c.requires in
-    omega (arith, place_within s ((s.gone + c.args.place) / 10) (omega arith), c.ring-place-at.ensures)
+    omega (arith, place_within s ((s.gone + c.args.place) / 10) (omega arith), c.ring_place-at.ensures)
 
 pub bounds-self-at : goal.bounds-self-at
 bounds-self-at c = within (goal.at.bounds-self-at c).After-ring-place-at
@@ -30,7 +30,7 @@ returns c =
     let words = s.words.now in
     let bit = s.gone + c.args.place in
     let held = waiting_held s c.args.place c.requires in
-    let place = c.ring-place-at in
+    let place = c.ring_place-at in
     let turned : set words place.result c.with_turned.result ≡ words_turned s c.args.place =
     ap (set words place.result) c.with_turned.ensures
     ∙ ap (λ n. set words n (with_turned (get_or words n 0) (bit % 10))) place.ensures in

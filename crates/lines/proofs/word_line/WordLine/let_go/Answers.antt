@@ -26,7 +26,7 @@ returns-else-self-lt9 c =
     ap (character_bits words s.front s.held) ten
     ∙ (ap (λ n. character_bits words s.front n 10) one
     ∙ (character_leaves words s.front (s.held - 1) (front_within s c.requires) (omega arith)
-    ∙ ap (λ n. character_bits words n (s.held - 1) 0) (sym c.ring-place-self.ensures))) in
+    ∙ ap (λ n. character_bits words n (s.held - 1) 0) (sym c.ring_place-self.ensures))) in
     let first = get_or (character_bits words s.front s.held s.gone) 0 0 in
     record {
       line = ap (λ bits. record { waiting = bits; capacity = line_capacity (10 * length words) }) (leaves ∙ ap (λ bits. first ∷ bits) next);

@@ -3,13 +3,13 @@ use Rattle.std.proofs.lemmas.Bool.Decides.{nat_tests}
 use Rattle.link.specs.Hearing.{before_sync}
 use Rattle.link.proofs.receiver.hearing.close_before_sync.Goals as goal
 
-pub returns-then-not-is-good : goal.returns-then-not-is-good
+pub returns-then-not-is_good : goal.returns-then-not-is_good
 unfolding before_sync
-returns-then-not-is-good c = record { is = grind (arith, nat_tests); sound = search rules }
+returns-then-not-is_good c = record { is = grind (arith, nat_tests); sound = search rules }
 
-pub returns-then-not-is-k28-5 : goal.returns-then-not-is-k28-5
+pub returns-then-not-is_k28_5 : goal.returns-then-not-is_k28_5
 unfolding before_sync
-returns-then-not-is-k28-5 c = record { is = grind (arith, nat_tests); sound = search rules }
+returns-then-not-is_k28_5 c = record { is = grind (arith, nat_tests); sound = search rules }
 
 pub returns-then-ledger-eq2 : goal.returns-then-ledger-eq2
 unfolding before_sync

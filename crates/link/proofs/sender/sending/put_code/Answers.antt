@@ -7,8 +7,8 @@ use Rattle.link.proofs.Puttings.{ten_longer}
 use Rattle.link.proofs.sender.sending.put_code.Goals as goal
 
 -- the character of a valid code is below 1024
-pub unreachable-requires-in-default-put : goal.unreachable-requires-in-default-put
-unreachable-requires-in-default-put g c =
+pub unreachable-requires-in_default-put : goal.unreachable-requires-in_default-put
+unreachable-requires-in_default-put g c =
     let small = characters_fit c.args.kind c.args.byte c.args.disparity c.requires.0 c.requires.1.0 in
     search rules
 

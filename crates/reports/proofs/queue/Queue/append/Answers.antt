@@ -12,7 +12,7 @@ returns g c =
     let h : count < length xs = omega (arith, c.requires) in
     let k : min count (length xs) ≡ count = omega arith in
     let place = wrap (length xs) (q.front % length xs + count) in
-    let e = c.store.ensures ∙ ap (λ (i : ℕ). set xs i c.args.element) c.ring-place-place.ensures in
+    let e = c.store.ensures ∙ ap (λ (i : ℕ). set xs i c.args.element) c.ring_place-place.ensures in
     let n : length c.store.new.memory ≡ length xs = ap length e ∙ length-set xs place c.args.element in
     record {
       joined = push_shown xs c.store.new.memory q.front count c.args.element h e;

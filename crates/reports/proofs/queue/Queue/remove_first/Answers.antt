@@ -7,13 +7,13 @@ pub returns : goal.returns
 returns g c =
     let q = c.args.self.now in
     let xs = q.memory.now in
-    let x = c.front-element-element.result in
-    let next = c.ring-place-self.result in
+    let x = c.front_element-element.result in
+    let next = c.ring_place-self.result in
     let less = c.min.result - 1 in
     let is-less : less ≡ min q.count (length xs) - 1 = omega arith in
     record {
       elements =
-          pop_shown xs q.front q.count next less x c.requires c.ring-place-self.ensures is-less
-          ∙ ap (λ y. y ∷ cyclic xs (next % length xs) (min less (length xs))) (sym (c.front-element-element.ensures x));
+          pop_shown xs q.front q.count next less x c.requires c.ring_place-self.ensures is-less
+          ∙ ap (λ y. y ∷ cyclic xs (next % length xs) (min less (length xs))) (sym (c.front_element-element.ensures x));
       memory = refl;
     }

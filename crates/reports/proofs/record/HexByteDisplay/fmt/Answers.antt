@@ -17,7 +17,7 @@ digit_is n c h e =
 pub returns-clause-writes : goal.returns-clause-writes
 returns-clause-writes g c =
     let byte = c.args.self.now.byte in
-    let high = digit_is (byte / 16) c.hex-digit-high.result (omega arith) c.hex-digit-high.ensures in
-    let low = digit_is (byte % 16) c.hex-digit-low.result (omega arith) c.hex-digit-low.ensures in
-    let e : encode c.hex-digit-high.result ++ encode c.hex-digit-low.result ≡ hex_pair byte = ap₂ (λ (x y : List ℕ). x ++ y) high low in
-    λ plain ok. has_written_of_eq g.W.Write.write_str_gives c.args.f.now (encode c.hex-digit-high.result ++ encode c.hex-digit-low.result) (hex_pair byte) c.write.new.self e (c.write.ensures.writes plain ok)
+    let high = digit_is (byte / 16) c.hex_digit-high.result (omega arith) c.hex_digit-high.ensures in
+    let low = digit_is (byte % 16) c.hex_digit-low.result (omega arith) c.hex_digit-low.ensures in
+    let e : encode c.hex_digit-high.result ++ encode c.hex_digit-low.result ≡ hex_pair byte = ap₂ (λ (x y : List ℕ). x ++ y) high low in
+    λ plain ok. has_written_of_eq g.W.Write.write_str_gives c.args.f.now (encode c.hex_digit-high.result ++ encode c.hex_digit-low.result) (hex_pair byte) c.write.new.self e (c.write.ensures.writes plain ok)
