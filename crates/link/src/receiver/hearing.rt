@@ -365,10 +365,10 @@ impl Receiver {
 
     // Takes one bit from the tap.
     pub fn hear<T: Tap>(&mut self, tap: &mut T) -> Result<Heard, HearRefusal>
-        ensures answer { numbered hear_refusal result ≡ (heard_from self.old.state (meaning tap.old)).answer }
-        ensures state { self.new.state ≡ (heard_from self.old.state (meaning tap.old)).state }
-        ensures tap { meaning tap.new ≡ (heard_from self.old.state (meaning tap.old)).tap }
-        ensures untouched { Untouched result (meaning tap.old) tap.old tap.new }
+        ensures answer { numbered hear_refusal result ≡ (heard_from self.old.state (T.meaning tap.old)).answer }
+        ensures state { self.new.state ≡ (heard_from self.old.state (T.meaning tap.old)).state }
+        ensures tap { T.meaning tap.new ≡ (heard_from self.old.state (T.meaning tap.old)).tap }
+        ensures untouched { Untouched result (T.meaning tap.old) tap.old tap.new }
     {
         if self.state.ledger.number == u32::MAX {
             return Err(HearRefusal::NumbersSpent);

@@ -13,7 +13,7 @@ invariant_of-self c =
     let same = length-set s.words.now c.ring_place-place.result c.args.character in
     let room = room_for_one s c.requires in
     let size = ap (λ n. line_capacity (10 * n)) same in
-    (omega (arith, s.first), (omega arith, (s.partial, (omega (arith, s.begun), tt))))
+    record { first = omega (arith, s.first); fits = omega arith; partial = s.partial; begun = omega (arith, s.begun) }
 
 pub returns : goal.returns
 returns c =

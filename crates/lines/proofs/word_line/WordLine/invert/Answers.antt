@@ -6,23 +6,23 @@ use Rattle.lines.proofs.Characters.{bit_turns}
 use Rattle.lines.proofs.Meanings.{same_meaning}
 use Rattle.lines.proofs.WordLines.{held_within, front_within, waiting_held, place_within}
 use Rattle.lines.proofs.word_line.WordLine.invert.Goals as goal
-use Rattle.lines.proofs.word_line.WordLine.invert.Goals.{After-ring-place-at}
+use Rattle.lines.proofs.word_line.WordLine.invert.Goals.{After-ring_place-at}
 
 pub overflow_add-bit : goal.overflow_add-bit
 overflow_add-bit c = let held = waiting_held c.args.self.now c.args.place c.requires in search rules
 
 -- The word of the bit is one of the ring.
-within : (c : After-ring-place-at) → c.ring_place-at.result < length c.args.self.now.words.now
+within : (c : After-ring_place-at) → c.ring_place-at.result < length c.args.self.now.words.now
 within c =
     let s = c.args.self.now in
     let held = waiting_held s c.args.place c.requires in
     omega (arith, place_within s ((s.gone + c.args.place) / 10) (omega arith), c.ring_place-at.ensures)
 
 pub bounds-self-at : goal.bounds-self-at
-bounds-self-at c = within (goal.at.bounds-self-at c).After-ring-place-at
+bounds-self-at c = within (goal.at.bounds-self-at c).After-ring_place-at
 
 pub bounds-self-at-2 : goal.bounds-self-at-2
-bounds-self-at-2 c = within (goal.at.bounds-self-at-2 c).After-ring-place-at
+bounds-self-at-2 c = within (goal.at.bounds-self-at-2 c).After-ring_place-at
 
 pub returns : goal.returns
 returns c =
