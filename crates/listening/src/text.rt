@@ -98,8 +98,8 @@ fn tell_all<T: Tap>(
     tap: &mut T,
     text: &mut String,
 ) -> Result<usize, fmt::Error>
-    ensures text { IfOk result (λ n. string_bytes text.new ≡ string_bytes text.old ++ told receiver.old.state (meaning tap.old).waiting) }
-    ensures taken { IfOk result (λ n. n ≡ taken receiver.old.state (meaning tap.old).waiting) }
+    ensures text { IfOk result (λ n. string_bytes text.new ≡ string_bytes text.old ++ told receiver.old.state (T.meaning tap.old).waiting) }
+    ensures taken { IfOk result (λ n. n ≡ taken receiver.old.state (T.meaning tap.old).waiting) }
 {
     let mut dword_memory = [NO_DWORD; 1];
     let mut report_memory = [Report::Lost; 3];
@@ -120,7 +120,7 @@ fn tell_all<T: Tap>(
 
 // The lines of all that a receiver which has heard nothing hears in a tap, and the end.
 fn listen_to<T: Tap>(tap: &mut T, heap: Global) -> Result<String, fmt::Error>
-    ensures { IfOk result (λ text. string_bytes text ≡ listening (meaning tap.old).waiting) }
+    ensures { IfOk result (λ text. string_bytes text ≡ listening (T.meaning tap.old).waiting) }
 {
     let mut receiver = Receiver::new();
     let mut text = String::new(heap);

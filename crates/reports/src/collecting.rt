@@ -106,7 +106,7 @@ fn keep_dword(dwords: &mut Queue<'_, DwordRecord>, heard: Heard)
 // The end of collecting: a dry tap comes before every other reason.
 fn stop_at<T: Tap>(tap: &T, bits: usize, stop: Stop) -> Collected
     ensures bits { result.bits ≡ bits }
-    ensures stop { result.stop ≡ (if nat_eq (length (meaning tap.now).waiting) 0 then Stop.Dry else stop) }
+    ensures stop { result.stop ≡ (if nat_eq (length (T.meaning tap.now).waiting) 0 then Stop.Dry else stop) }
 {
     let stop = if tap.is_dry() { Stop::Dry } else { stop };
     Collected { bits, stop }
@@ -120,9 +120,9 @@ pub fn collect<T: Tap>(
     dwords: &mut Queue<'_, DwordRecord>,
     reports: &mut Queue<'_, Report>,
 ) -> Collected
-    ensures collects { Collects (collected most (room_of dwords.old) (room_of reports.old) receiver.old.state (meaning tap.old).waiting) result.bits result.stop receiver.new.state (meaning tap.new).waiting dwords.old dwords.new reports.old reports.new }
-    ensures gone { result.bits + length (meaning tap.new).waiting ≡ length (meaning tap.old).waiting }
-    ensures capacity { (meaning tap.new).capacity ≡ (meaning tap.old).capacity }
+    ensures collects { Collects (collected most (room_of dwords.old) (room_of reports.old) receiver.old.state (T.meaning tap.old).waiting) result.bits result.stop receiver.new.state (T.meaning tap.new).waiting dwords.old dwords.new reports.old reports.new }
+    ensures gone { result.bits + length (T.meaning tap.new).waiting ≡ length (T.meaning tap.old).waiting }
+    ensures capacity { (T.meaning tap.new).capacity ≡ (T.meaning tap.old).capacity }
 {
     const LEAST_PLACES: usize = 3;
     for bits in 0..most {

@@ -4,4 +4,4 @@ use Rattle.runs.specs.EndRuns.{meant}
 use Rattle.runs.proofs.lent.ends_agree.Goals as goal
 
 pub returns : goal.returns
-returns c = fair_lines_agree (map meant c.args.-calls.now)
+returns c = fair_lines_agree (map meant c.args._calls.now)
