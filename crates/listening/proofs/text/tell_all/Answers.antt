@@ -7,10 +7,10 @@ use Rattle.listening.proofs.Tellings.{told_none}
 use Rattle.listening.proofs.Turns.{Turn, turn}
 use Rattle.listening.proofs.text.tell_all.Given as given
 use Rattle.listening.proofs.text.tell_all.Goals as goal
-use Rattle.listening.proofs.text.tell_all.Goals.{In-ok-tell-dwords, at·hearing-less, at·hearing-again, at·sub-result, at·returns-in-Dry, at·sub-result-in-Declined, at·returns-in-Declined}
+use Rattle.listening.proofs.text.tell_all.Goals.{In_ok-tell_dwords}
 
 -- each turn is one of the argument's turns
-one_turn : (g : given.Over) (c : In-ok-tell-dwords g)
+one_turn : (g : given.Over) (c : In_ok-tell_dwords g)
     → Turn c.hearing.receiver.state c.collect-collected.new.receiver.state
     (g.T.Tap.meaning c.hearing.tap).waiting (g.T.Tap.meaning c.collect-collected.new.tap).waiting
     c.collect-collected.result.bits c.collect-collected.result.stop
@@ -25,7 +25,7 @@ one_turn g c =
 
 pub hearing-preserved : goal.hearing-preserved
 hearing-preserved g c =
-    let t = one_turn g (at·hearing-again g c).In-ok-tell-dwords in
+    let t = one_turn g (goal.at.hearing-preserved g c).In_ok-tell_dwords in
     let l = c.hearing in
     let r = c.collect-collected in
     let told-dwords = c.in_ok-tell_dwords.ensures in
@@ -43,12 +43,12 @@ ended text text' lines e n = sym (append-nil text') ∙ (sym (ap (λ (x : List �
 
 pub overflow_sub-result : goal.overflow_sub-result
 overflow_sub-result g c =
-    let t = one_turn g (at·sub-result g c).In-ok-tell-dwords in
+    let t = one_turn g (goal.at.overflow_sub-result g c).In_ok-tell_dwords in
     omega (arith, t.shorter, c.hearing.invariant.2, c.count.ensures, c.count-before.ensures)
 
 pub returns-in-Dry : goal.returns-in-Dry
 returns-in-Dry g c =
-    let t = one_turn g (at·returns-in-Dry g c).In-ok-tell-dwords in
+    let t = one_turn g (goal.at.returns-in-Dry g c).In_ok-tell_dwords in
     let s = c.collect-collected.new.receiver.state in
     let none = t.over c.in-Dry.is in
     record {
@@ -58,12 +58,12 @@ returns-in-Dry g c =
 
 pub overflow_sub-result-in-Declined : goal.overflow_sub-result-in-Declined
 overflow_sub-result-in-Declined g c =
-    let t = one_turn g (at·sub-result-in-Declined g c).In-ok-tell-dwords in
+    let t = one_turn g (goal.at.overflow_sub-result-in-Declined g c).In_ok-tell_dwords in
     omega (arith, t.shorter, c.hearing.invariant.2, c.count-in-Declined.ensures, c.count-before.ensures)
 
 pub returns-in-Declined : goal.returns-in-Declined
 returns-in-Declined g c =
-    let t = one_turn g (at·returns-in-Declined g c).In-ok-tell-dwords in
+    let t = one_turn g (goal.at.returns-in-Declined g c).In_ok-tell_dwords in
     let r = c.collect-collected in
     let none = told_none r.new.receiver.state (g.T.Tap.meaning r.new.tap).waiting (t.spent _ c.in-Declined.is) in
     record {
@@ -73,5 +73,5 @@ returns-in-Declined g c =
 
 pub hearing-smaller : goal.hearing-smaller
 hearing-smaller g c =
-    let t = one_turn g (at·hearing-less g c).In-ok-tell-dwords in
+    let t = one_turn g (goal.at.hearing-smaller g c).In_ok-tell_dwords in
     omega (arith, t.shorter, t.more c.in_default.not-Dry c.in_default.not-Declined)
