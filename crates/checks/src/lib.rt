@@ -4,6 +4,6 @@
 #[cfg(test)]
 mod collecting;
 #[cfg(test)]
-mod listening;
+mod recordings;
 #[cfg(test)]
 mod signals;
