@@ -27,8 +27,8 @@ pub record Lawful (capacity opened : ℕ) (calls : List LinkCall) (events : List
   pub each : map call_of events ≡ calls
   pub exact : Exact capacity opened (reverse events)
   pub laws : LinkLaws opened (reverse events)
-  pub line-left : line ≡ line_after capacity opened (reverse events)
-  pub disparity-left : disparity ≡ disparity_after_all opened (sent (reverse events))
+  pub line_left : line ≡ line_after capacity opened (reverse events)
+  pub disparity_left : disparity ≡ disparity_after_all opened (sent (reverse events))
 
 -- Declined exactly if there are fewer places than calls, or else if bits wait on the line.
 abbrev pub LinkDeclined : {X : Type 0} → ℕ → ℕ → ℕ → Result X RunRefusal → Type 0

@@ -103,8 +103,8 @@ exact capacity d small start = tt
 exact capacity d small (makes {b = b} e made reached) = (answers_made capacity d b e (history_tells capacity d small reached) made, exact capacity d small reached)
 
 -- the line and the sender after the history
-pub line-left : (capacity d : ℕ) → d < 2 → {h : History} {a : Link} → Reached capacity d h a → a.line ≡ line_after capacity d h
-line-left capacity d small reached = (history_tells capacity d small reached).line
+pub line_left : (capacity d : ℕ) → d < 2 → {h : History} {a : Link} → Reached capacity d h a → a.line ≡ line_after capacity d h
+line_left capacity d small reached = (history_tells capacity d small reached).line
 
-pub disparity-left : (capacity d : ℕ) → d < 2 → {h : History} {a : Link} → Reached capacity d h a → a.disparity ≡ disparity_after_all d (sent h)
-disparity-left capacity d small reached = (history_tells capacity d small reached).disparity
+pub disparity_left : (capacity d : ℕ) → d < 2 → {h : History} {a : Link} → Reached capacity d h a → a.disparity ≡ disparity_after_all d (sent h)
+disparity_left capacity d small reached = (history_tells capacity d small reached).disparity

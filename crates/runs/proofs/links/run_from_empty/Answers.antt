@@ -1,5 +1,5 @@
 use Rattle.std.proofs.lemmas.List.{nil_from_length}
-use Rattle.transcript.proofs.Exactness.{exact, line-left, disparity-left}
+use Rattle.transcript.proofs.Exactness.{exact, line_left, disparity_left}
 use Rattle.transcript.proofs.LinkLaws.{link_laws}
 use Rattle.runs.proofs.links.run_from_empty.Goals as goal
 
@@ -16,8 +16,8 @@ returns g c =
         each = made.each;
         exact = exact capacity d small reached;
         laws = link_laws capacity d small reached;
-        line-left = line-left capacity d small reached;
-        disparity-left = disparity-left capacity d small reached;
+        line_left = line_left capacity d small reached;
+        disparity_left = disparity_left capacity d small reached;
       };
       rest = made.rest;
     }
