@@ -1,18 +1,18 @@
 -- On a fair line both ends come to one outcome.
-use Rattle.std.proofs.Common.{◌≡◌, ℕ, zero, suc, ◌+◌, ◌-◌, ◌*◌, ◌<◌, ◌≤◌, max, Bool, true, false, cond, ◌&&◌, ◌||◌, ◌⊎◌, sym, refl, ap, ◌∙◌, subst, inl, inr, arith}
-use Rattle.std.proofs.lemmas.Bool.{both_ways, true≢false, false≢true, cases_Bool, cases_lt, or_right, or_left, and_parts}
+use Rattle.std.proofs.Common.{◌≡◌, ℕ, ◌+◌, ◌-◌, ◌*◌, ◌≤◌, max, true, false, ◌⊎◌, ap, inl, inr, arith}
+use Rattle.std.proofs.lemmas.Bool.{false≢true, cases_lt, or_right, or_left, and_parts}
 use Rattle.bringup.specs.declared.rate.Rate.{Rate}
 use Rattle.bringup.specs.declared.rate.RateSet.{RateSet}
 use Rattle.bringup.specs.declared.rate.Rate.TheVariants.{NoRate, G1, G2, G3, G4}
 use Rattle.bringup.specs.Bringup.{signalled}
 use Rattle.bringup.specs.Rates.{supports, rate_number}
-use Rattle.agreement.specs.FairLine.{Life, Hears, Reaches, FairLine, Agreement, LivedFor, age, signs_at, Over, over, is_over, BothReady, BothFailed, shared, LocksInTime, present}
+use Rattle.agreement.specs.FairLine.{Life, Hears, Reaches, Agreement, LivedFor, age, signs_at, Over, over, BothReady, BothFailed}
 use Rattle.agreement.proofs.Machine.{ears}
 use Rattle.agreement.proofs.Stages.{over-begun, begins_by, signalled_stays}
 use Rattle.agreement.proofs.Line.{detected_since, hears_cominit, hears_comsas}
 use Rattle.agreement.proofs.Meeting.{Starts, Opened, over-opened, opens_first}
 use Rattle.agreement.proofs.Windows.{fresh_window}
-use Rattle.agreement.proofs.Settle.{Joint, Lasting, Result, Hope, Locks, settle}
+use Rattle.agreement.proofs.Settle.{Joint, Result, Hope, settle}
 
 -- signalled at t, an end begins COMSAS by t or by the end of its COMINIT
 begins_soon : (x : Life) (t : ℕ) → signalled (ears (signs_at x.notes) t) ≡ true → (c : ℕ) × ((c ≤ t + (9255 - t)) × Starts x c)

@@ -1,6 +1,6 @@
 -- From lists of calls to lives.
-use Rattle.std.proofs.Common.{◌≡◌, ℕ, zero, suc, ◌+◌, ◌-◌, ◌<◌, ◌≤◌, Bool, true, false, cond, not, ◌&&◌, ◌||◌, eqb, ltb, ◌⊎◌, List, [], ◌∷◌, ◌++◌, sym, refl, ap, ◌∙◌, subst, ap₂, inl, inr, add-zero, add-suc, zero-add, arith}
-use Rattle.std.proofs.lemmas.Bool.{cond-true, cond-false, cond_both, lt-ltb, le-ltb, eq-eqb, ne_eqb, cases_Bool, both_ways, true≢false, false≢true}
+use Rattle.std.proofs.Common.{◌≡◌, ℕ, zero, suc, ◌+◌, ◌-◌, ◌<◌, Bool, true, false, cond, not, ◌&&◌, ◌||◌, eqb, ltb, ◌⊎◌, List, [], ◌∷◌, ◌++◌, sym, refl, ap, ◌∙◌, subst, ap₂, inl, inr, add-zero, add-suc, arith}
+use Rattle.std.proofs.lemmas.Bool.{cond-true, cond-false, lt-ltb, le-ltb, eq-eqb, ne_eqb, cases_Bool, both_ways, true≢false}
 use Rattle.std.proofs.lemmas.Bool.Decides.{nat_tests}
 use Rattle.code.specs.Refusals.{plain}
 use Rattle.bringup.specs.declared.end.Phase.{Phase}
@@ -9,9 +9,9 @@ use Rattle.bringup.specs.declared.rate.RateSet.{RateSet}
 use Rattle.bringup.specs.declared.end.End.{End}
 use Rattle.bringup.specs.declared.end.Sign.{Sign}
 use Rattle.bringup.specs.declared.end.Sign.TheVariants.{Nothing, BurstStarts, BurstEnds, Locked, Align1}
-use Rattle.bringup.specs.Bringup.{Called, declined, done, is_unstarted, signed, tick, ticks, settled, aged, begun, sign_at, unused}
+use Rattle.bringup.specs.Bringup.{Called, declined, done, is_unstarted, signed, tick, ticks, settled, aged, begun, sign_at}
 use Rattle.bringup.specs.Rates.{rate_set}
-use Rattle.agreement.specs.FairLine.{started, noted, Note, age, signs_at, all_signed, after, Life, state_at, present, Which, here, there, Call, start, note, Course, start_one, note_one, note_accepted, Courses, on_one, called, all_called, both_unused, life_of, Outcomes, FairLinesAgree, FairLine}
+use Rattle.agreement.specs.FairLine.{started, noted, Note, age, signs_at, all_signed, after, present, here, there, Call, start, note, Course, start_one, note_one, note_accepted, Courses, called, all_called, both_unused, life_of, FairLinesAgree}
 use Rattle.agreement.proofs.Agreement.{agreement}
 
 -- the state after some notes, note by note

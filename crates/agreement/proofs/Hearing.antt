@@ -1,18 +1,15 @@
 -- What an end's detector makes of the other's bursts.
-use Rattle.std.proofs.Common.{◌≡◌, ℕ, zero, suc, ◌+◌, ◌*◌, ◌%◌, ◌<◌, ◌≤◌, Bool, true, false, cond, ◌&&◌, ◌||◌, ltb, leb, ◌⊎◌, List, [], ◌∷◌, Some, None, Option, sym, refl, ap, ◌∙◌, subst, inl, inr, add-zero, add-suc, suc-mul, zero-add, zero-mul, add-one, arith}
-use Rattle.std.proofs.lemmas.Bool.{cond-true, cond-false, cond_both, lt-ltb, le-ltb, lt-leb, le-leb, and_right, both_ways, true≢false, false≢true}
+use Rattle.std.proofs.Common.{◌≡◌, ℕ, zero, suc, ◌+◌, ◌*◌, ◌<◌, ◌≤◌, Bool, true, false, ltb, leb, List, [], ◌∷◌, Some, None, Option, sym, refl, ap, ◌∙◌, add-zero, add-suc, suc-mul, zero-add, zero-mul, add-one, arith}
+use Rattle.std.proofs.lemmas.Bool.{cond-true, lt-ltb, lt-leb, le-leb, and_right, true≢false, false≢true}
 use Rattle.std.proofs.lemmas.Bool.Decides.{nat_tests}
 use Rattle.bringup.specs.declared.detector.Detector.{Detector}
 use Rattle.bringup.specs.declared.signal.Signal.{Signal}
 use Rattle.bringup.specs.declared.signal.Signal.TheVariants.{Comwake, Cominit, Comsas}
 use Rattle.bringup.specs.declared.end.Sign.{Sign}
 use Rattle.bringup.specs.declared.end.Sign.TheVariants.{Nothing, BurstStarts, BurstEnds, Locked, Align1}
-use Rattle.bringup.specs.Detection.{passed, risen, ceased, more, longer, signal_of, alike_after, closed, is_comsas, is_cominit}
-use Rattle.bringup.specs.Bringup.{signalled}
-use Rattle.bringup.specs.Asking.{in_burst}
-use Rattle.bringup.specs.Detection.{deaf}
+use Rattle.bringup.specs.Detection.{passed, risen, ceased, more, longer, signal_of, alike_after, closed}
 use Rattle.agreement.specs.FairLine.{has}
-use Rattle.agreement.proofs.Machine.{heard, heard_one, ears}
+use Rattle.agreement.proofs.Machine.{heard}
 
 -- a tick's signs, by whether they hold a burst's start or end
 pub heard_quiet : (gs : List Sign) (d : Detector) → has BurstStarts gs ≡ false → has BurstEnds gs ≡ false → heard gs d ≡ d

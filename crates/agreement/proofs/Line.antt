@@ -1,16 +1,15 @@
 -- What one end hears of the other over a fair line.
-use Rattle.std.proofs.Common.{◌≡◌, ℕ, zero, suc, ◌+◌, ◌-◌, ◌*◌, ◌%◌, ◌<◌, ◌≤◌, Bool, true, false, cond, not, ◌&&◌, ◌||◌, ◌⊎◌, List, [], ◌∷◌, Some, None, sym, refl, ap, ◌∙◌, subst, inl, inr, add-zero, add_assoc, add-suc, zero-add, arith}
+use Rattle.std.proofs.Common.{◌≡◌, ℕ, zero, suc, ◌+◌, ◌-◌, ◌<◌, ◌≤◌, Bool, true, false, List, [], ◌∷◌, None, sym, refl, ap, ◌∙◌, subst, inl, inr, add-zero, add_assoc, add-suc, zero-add, arith}
 use Rattle.std.proofs.lemmas.Bool.{both_ways, true≢false, false≢true, cases_Bool, cases_lt, cases_eq, or_from}
 use Rattle.bringup.specs.declared.detector.Detector.{Detector}
-use Rattle.bringup.specs.declared.signal.Signal.TheVariants.{Comwake, Cominit, Comsas}
 use Rattle.bringup.specs.declared.end.Sign.{Sign}
 use Rattle.bringup.specs.declared.end.Sign.TheVariants.{Nothing, BurstStarts, BurstEnds, Locked, Align1}
-use Rattle.bringup.specs.Detection.{passed, risen, ceased, is_comsas}
+use Rattle.bringup.specs.Detection.{passed, is_comsas}
 use Rattle.bringup.specs.Bringup.{signalled}
 use Rattle.bringup.specs.Asking.{in_burst}
 use Rattle.bringup.specs.Detection.{deaf}
 use Rattle.agreement.specs.FairLine.{Life, Hears, Reaches, bursting, age, signs_at, has, StartsBurst, EndsBurst}
-use Rattle.agreement.proofs.Machine.{heard, heard_one, ears, ears_zero, ears_suc}
+use Rattle.agreement.proofs.Machine.{heard, ears, ears_zero, ears_suc}
 use Rattle.agreement.proofs.Hearing.{heard_quiet, heard-start, heard-end, hear, relay, relay_zero, relay_suc, relay_step, shift, hear_fallen}
 use Rattle.agreement.proofs.Stages.{Begins, sends_cominit, sends_early, sends_comsas}
 use Rattle.agreement.proofs.Trains.{Early, early_lasts, cominit_heard, comsas_heard, comsas_not_fallen, comsas_fallen, relay_fallen_stays, passed_same, passed_fallen}

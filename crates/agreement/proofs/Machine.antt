@@ -1,21 +1,21 @@
 -- How one end goes from tick to tick, phase by phase.
-use Rattle.std.proofs.Common.{◌≡◌, ℕ, zero, suc, ◌+◌, ◌<◌, ◌≤◌, Bool, true, false, cond, ◌&&◌, ◌||◌, ltb, leb, List, [], ◌∷◌, sym, refl, ap, ◌∙◌, subst, add-one, arith}
-use Rattle.std.proofs.lemmas.Bool.{cond-true, cond-false, cond_both, lt-ltb, le-ltb, and_right}
+use Rattle.std.proofs.Common.{◌≡◌, ℕ, zero, suc, ◌+◌, ◌<◌, Bool, true, false, cond, ◌&&◌, ◌||◌, ltb, leb, List, [], ◌∷◌, sym, refl, ap, ◌∙◌, add-one, arith}
+use Rattle.std.proofs.lemmas.Bool.{cond-true, cond-false, cond_both, lt-ltb, and_right}
 use Rattle.std.proofs.lemmas.Bool.Decides.{nat_tests}
 use Rattle.bringup.specs.declared.detector.Detector.{Detector}
 use Rattle.bringup.specs.declared.end.Phase.{Phase}
-use Rattle.bringup.specs.declared.end.Phase.TheVariants.{Unstarted, SendingCominit, Awaiting, SendingComsas, Falling, Negotiating, Ready, Failed}
-use Rattle.bringup.specs.declared.rate.Rate.TheVariants.{NoRate, G1, G2, G3, G4}
+use Rattle.bringup.specs.declared.end.Phase.TheVariants.{SendingCominit, Awaiting, SendingComsas, Falling, Negotiating, Failed}
+use Rattle.bringup.specs.declared.rate.Rate.TheVariants.{G1}
 use Rattle.bringup.specs.declared.rate.RateSet.{RateSet}
 use Rattle.bringup.specs.declared.end.Window.{Window}
 use Rattle.bringup.specs.declared.end.End.{End}
 use Rattle.bringup.specs.declared.end.Sign.{Sign}
 use Rattle.bringup.specs.declared.end.Sign.TheVariants.{Nothing, BurstStarts, BurstEnds, Locked, Align1}
 use Rattle.bringup.specs.Detection.{passed, risen, ceased}
-use Rattle.bringup.specs.Bringup.{detecting, is_awaiting, is_negotiating, signed, tick, later, entered, opened, signalled, no_window, begun, settled, closed_window, locked_window, aligned_window}
+use Rattle.bringup.specs.Bringup.{is_awaiting, is_negotiating, signed, tick, later, signalled, closed_window, locked_window, aligned_window}
 use Rattle.bringup.specs.Rates.{supports}
 use Rattle.bringup.specs.Detection.{deaf}
-use Rattle.agreement.specs.FairLine.{all_signed, after}
+use Rattle.agreement.specs.FairLine.{all_signed}
 
 -- an end by its parts
 abbrev pub make : RateSet → Phase → ℕ → Detector → Window → End

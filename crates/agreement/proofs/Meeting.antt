@@ -1,11 +1,9 @@
 -- Two ends that have sent COMSAS open their first windows together.
-use Rattle.std.proofs.Common.{◌≡◌, ℕ, zero, suc, ◌+◌, ◌-◌, ◌<◌, ◌≤◌, Bool, true, false, cond, ◌&&◌, ◌||◌, ◌⊎◌, List, [], ◌∷◌, sym, refl, ap, ◌∙◌, subst, inl, inr, add-zero, add-suc, arith}
-use Rattle.std.proofs.lemmas.Bool.{both_ways, true≢false, false≢true, cases_Bool, cases_lt, or_right, or_left}
-use Rattle.bringup.specs.declared.end.Phase.{Phase}
-use Rattle.bringup.specs.declared.end.Phase.TheVariants.{SendingComsas, Falling, Negotiating}
+use Rattle.std.proofs.Common.{◌≡◌, ℕ, suc, ◌+◌, ◌-◌, ◌<◌, ◌≤◌, Bool, true, false, ◌⊎◌, List, sym, refl, ap, ◌∙◌, subst, inl, inr, arith}
+use Rattle.std.proofs.lemmas.Bool.{both_ways, false≢true, cases_lt, or_right}
+use Rattle.bringup.specs.declared.end.Phase.TheVariants.{Falling}
 use Rattle.bringup.specs.declared.rate.Rate.{Rate}
 use Rattle.bringup.specs.declared.rate.Rate.TheVariants.{NoRate}
-use Rattle.bringup.specs.declared.end.Window.{Window}
 use Rattle.bringup.specs.declared.end.Sign.{Sign}
 use Rattle.bringup.specs.declared.end.Activity.TheVariants.{Idle}
 use Rattle.bringup.specs.declared.end.Activity.TheVariants as sends
@@ -16,7 +14,7 @@ use Rattle.bringup.specs.Rates.{rate_number}
 use Rattle.agreement.specs.FairLine.{Life, Hears, Reaches, state_at, rate_at, age, signs_at, Over, is_over, OpensWindow}
 use Rattle.agreement.proofs.Machine.{first_window, ears}
 use Rattle.agreement.proofs.Stages.{In, Begins, comsas_begins, comsas_stage, comsas_stays, fallen_stays, falling_stage, opens_at_once, opens_later}
-use Rattle.agreement.proofs.Line.{hearing, detected_since, hears_comsas, not_fallen_before, falls}
+use Rattle.agreement.proofs.Line.{detected_since, hears_comsas, not_fallen_before, falls}
 use Rattle.agreement.proofs.Windows.{is_align1}
 use Rattle.agreement.proofs.Pair.{At, SilentBefore}
 

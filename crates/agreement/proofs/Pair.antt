@@ -1,15 +1,14 @@
 -- One window that two ends open within the delay of one another.
-use Rattle.std.proofs.Common.{◌≡◌, ℕ, zero, suc, ◌+◌, ◌-◌, ◌<◌, ◌≤◌, Bool, true, false, cond, ◌&&◌, ◌||◌, ◌⊎◌, List, [], ◌∷◌, sym, refl, ap, ◌∙◌, subst, inl, inr, add-zero, add-suc, arith}
-use Rattle.std.proofs.lemmas.Bool.{both_ways, true≢false, false≢true, cases_Bool, cases_lt}
-use Rattle.bringup.specs.declared.end.Phase.TheVariants.{Negotiating, Ready, Failed}
+use Rattle.std.proofs.Common.{◌≡◌, ℕ, suc, ◌+◌, ◌-◌, ◌<◌, ◌≤◌, true, false, sym, ap, ◌∙◌, subst, inl, inr, add-suc, arith}
+use Rattle.std.proofs.lemmas.Bool.{cases_Bool, cases_lt}
+use Rattle.bringup.specs.declared.end.Phase.TheVariants.{Negotiating}
 use Rattle.bringup.specs.declared.rate.Rate.{Rate}
 use Rattle.bringup.specs.declared.end.Window.{Window}
-use Rattle.bringup.specs.declared.end.Sign.{Sign}
 use Rattle.bringup.specs.declared.end.Sign.TheVariants.{Align1}
 use Rattle.bringup.specs.declared.end.Activity.TheVariants as sends
 use Rattle.bringup.specs.Rates.{supports}
 use Rattle.bringup.specs.Asking.{activity}
-use Rattle.agreement.specs.FairLine.{Life, Hears, Reaches, Receiving, state_at, rate_at, age, signs_at, has, Notes}
+use Rattle.agreement.specs.FairLine.{Life, Hears, Reaches, Receiving, state_at, rate_at, age, signs_at, has}
 use Rattle.agreement.proofs.Stages.{In}
 use Rattle.agreement.proofs.Windows.{current, window_stage, open_rate, locked_stays, aligned_stays, locked_since, aligned_since, align_noted_valid, sends_align, align_sender_locked}
 

@@ -1,5 +1,5 @@
 -- Rates in the order of windows, and how far an end goes up.
-use Rattle.std.proofs.Common.{◌≡◌, ℕ, suc, ◌+◌, ◌<◌, ◌≤◌, Bool, true, false, cond, not, ◌&&◌, ◌||◌, eqb, sym, refl, ap, ◌∙◌, arith}
+use Rattle.std.proofs.Common.{◌≡◌, ℕ, suc, ◌<◌, ◌≤◌, Bool, true, false, cond, not, ◌&&◌, ◌||◌, eqb, sym, refl, ap, ◌∙◌, arith}
 use Rattle.std.proofs.lemmas.Bool.{both_ways, true≢false, false≢true, not-false, or_right}
 use Rattle.bringup.specs.declared.rate.Rate.{Rate}
 use Rattle.bringup.specs.declared.rate.Rate.TheVariants.{NoRate, G1, G2, G3, G4}

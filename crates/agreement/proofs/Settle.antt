@@ -1,12 +1,11 @@
 -- Two ends that open a window together come to one outcome.
-use Rattle.std.proofs.Common.{◌≡◌, ℕ, zero, suc, ◌+◌, ◌-◌, ◌*◌, ◌<◌, ◌≤◌, Bool, true, false, not, ◌⊎◌, sym, refl, ap, ◌∙◌, subst, inl, inr, arith}
+use Rattle.std.proofs.Common.{◌≡◌, ℕ, zero, suc, ◌+◌, ◌-◌, ◌*◌, ◌<◌, ◌≤◌, Bool, true, false, ◌⊎◌, sym, refl, ap, ◌∙◌, subst, inl, inr, arith}
 use Rattle.std.proofs.lemmas.Bool.{both_ways, true≢false, false≢true, cases_Bool, cases_lt, and_from, and_parts}
 use Rattle.bringup.specs.declared.end.Phase.TheVariants.{Negotiating, Ready, Failed}
 use Rattle.bringup.specs.declared.rate.Rate.{Rate}
 use Rattle.bringup.specs.declared.end.Window.{Window}
 use Rattle.bringup.specs.declared.end.Sign.TheVariants.{Locked}
 use Rattle.bringup.specs.declared.end.Activity.TheVariants.{Idle}
-use Rattle.bringup.specs.declared.end.Activity.TheVariants as sends
 use Rattle.bringup.specs.Rates.{supports, next_rate, previous_rate, past_highest, rate_number}
 use Rattle.bringup.specs.Asking.{activity, outcome_in}
 use Rattle.agreement.specs.FairLine.{Life, Hears, state_at, rate_at, present, present_rate, age, signs_at, Over, is_over, BothReady, BothFailed, shared, OpensWindow, LocksInTime, has}

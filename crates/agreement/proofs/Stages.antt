@@ -1,10 +1,10 @@
 -- The stages of one end's life, in closed form.
-use Rattle.std.proofs.Common.{◌≡◌, ℕ, zero, suc, ◌+◌, ◌-◌, ◌<◌, ◌≤◌, Bool, true, false, cond, ◌&&◌, ◌||◌, ltb, leb, ◌⊎◌, List, [], ◌∷◌, sym, refl, ap, ◌∙◌, subst, ap₂, inl, inr, add-zero, add-suc, arith}
-use Rattle.std.proofs.lemmas.Bool.{cond-true, cond-false, cond_both, lt-ltb, le-ltb, and_right, cases_lt, cases_Bool, both_ways, false≢true, or_left, or_right}
+use Rattle.std.proofs.Common.{◌≡◌, ℕ, zero, suc, ◌+◌, ◌-◌, ◌<◌, ◌≤◌, Bool, true, false, ◌||◌, ltb, ◌⊎◌, List, [], ◌∷◌, sym, refl, ap, ◌∙◌, subst, ap₂, inl, inr, add-zero, add-suc, arith}
+use Rattle.std.proofs.lemmas.Bool.{cond-true, cond-false, cond_both, lt-ltb, cases_lt, cases_Bool, both_ways, false≢true, or_left, or_right}
 use Rattle.std.proofs.lemmas.Bool.Decides.{nat_tests}
 use Rattle.bringup.specs.declared.detector.Detector.{Detector}
 use Rattle.bringup.specs.declared.end.Phase.{Phase}
-use Rattle.bringup.specs.declared.end.Phase.TheVariants.{Unstarted, SendingCominit, Awaiting, SendingComsas, Falling, Negotiating, Ready, Failed}
+use Rattle.bringup.specs.declared.end.Phase.TheVariants.{SendingCominit, Awaiting, SendingComsas, Falling, Negotiating}
 use Rattle.bringup.specs.declared.rate.RateSet.{RateSet}
 use Rattle.bringup.specs.declared.end.Window.{Window}
 use Rattle.bringup.specs.declared.end.End.{End}
@@ -16,7 +16,7 @@ use Rattle.bringup.specs.Asking.{activity, sending, in_burst}
 use Rattle.bringup.specs.Detection.{deaf}
 use Rattle.agreement.specs.FairLine.{all_signed, after, is_burst, is_over}
 use Rattle.agreement.proofs.Trains.{cominit_past, comsas_off, risen_fallen, passed_fallen_stays, passed_same}
-use Rattle.agreement.proofs.Machine.{make, heard, ears, ears_zero, ears_suc, waiting, window_all, first_window, risen_comsas, risen-signalled, signs_other, cominit_step, cominit_end, waiting_step, comsas_step, comsas_end, falling_step, comsas_open, falling_open, window_step, window_end}
+use Rattle.agreement.proofs.Machine.{make, heard, ears, ears_zero, ears_suc, waiting, first_window, risen_comsas, risen-signalled, signs_other, cominit_step, cominit_end, waiting_step, comsas_step, comsas_end, falling_step, comsas_open, falling_open}
 
 module _ (h : ℕ → List Sign) (s : RateSet) where
   -- the state at the end of tick t

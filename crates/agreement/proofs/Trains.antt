@@ -1,15 +1,13 @@
 -- What a detector makes of COMINIT and COMSAS.
-use Rattle.std.proofs.Common.{◌≡◌, ℕ, zero, suc, ◌+◌, ◌*◌, ◌%◌, ◌<◌, ◌≤◌, Bool, true, false, cond, ◌&&◌, ◌||◌, ltb, leb, ◌⊎◌, Some, None, Option, sym, refl, ap, ◌∙◌, subst, inl, inr, add-zero, add-suc, zero-add, add-one, arith}
+use Rattle.std.proofs.Common.{◌≡◌, ℕ, zero, suc, ◌+◌, ◌*◌, ◌%◌, ◌<◌, ◌≤◌, Bool, true, false, ◌&&◌, ltb, leb, ◌⊎◌, Some, None, Option, sym, refl, ap, ◌∙◌, subst, inl, inr, add-zero, add-suc, arith}
 use Rattle.std.proofs.lemmas.Bool.{cond-true, cond-false, cond_both, lt-ltb, le-ltb, lt-leb, le-leb, and_right, and_left, and_from, and_parts, and_cases, ltb-true, leb-true, ltb-false, leb-false, both_ways, true≢false, false≢true, cases_Bool, cases_lt}
 use Rattle.std.proofs.lemmas.Bool.Decides.{nat_tests}
 use Rattle.bringup.specs.declared.detector.Detector.{Detector}
 use Rattle.bringup.specs.declared.signal.Signal.{Signal}
 use Rattle.bringup.specs.declared.signal.Signal.TheVariants.{Comwake, Cominit, Comsas}
-use Rattle.bringup.specs.Detection.{passed, risen, ceased, more, longer, signal_of, alike_after, closed, is_comsas, is_cominit}
-use Rattle.bringup.specs.Bringup.{signalled}
+use Rattle.bringup.specs.Detection.{passed, risen, ceased, more, signal_of, alike_after, closed, is_comsas}
 use Rattle.bringup.specs.Asking.{in_burst}
-use Rattle.bringup.specs.Detection.{deaf}
-use Rattle.agreement.proofs.Hearing.{hear, relay, relay_zero, relay_suc, relay_step, relay_split, shift, idled, passed-burst, passed_idle, stay_burst, stay_idle, period, periods, periods_burst, periods_fallen, comsas_detected, cominit_detected, train, risen-burst, hear_fallen}
+use Rattle.agreement.proofs.Hearing.{hear, relay, relay_zero, relay_suc, relay_step, relay_split, shift, idled, passed-burst, stay_burst, stay_idle, periods, periods_burst, periods_fallen, comsas_detected, cominit_detected, train, risen-burst, hear_fallen}
 
 -- the bursts of COMINIT and of COMSAS
 pub cominit_on : (u : ℕ) → u < 7680 → 960 ≤ u % 1280 → in_burst 960 u ≡ true

@@ -1,8 +1,8 @@
 -- One window of one end.
-use Rattle.std.proofs.Common.{◌≡◌, ℕ, zero, suc, ◌+◌, ◌-◌, ◌<◌, ◌≤◌, Bool, true, false, cond, ◌&&◌, ◌||◌, ltb, leb, ◌⊎◌, List, [], ◌∷◌, sym, refl, ap, ◌∙◌, subst, inl, inr, add-zero, add-suc, arith}
-use Rattle.std.proofs.lemmas.Bool.{cond-true, cond-false, cond_both, and_from, and_parts, le-leb, leb-true, both_ways, true≢false, false≢true, cases_Bool, cases_lt, or_right}
+use Rattle.std.proofs.Common.{◌≡◌, ℕ, zero, suc, ◌+◌, ◌-◌, ◌<◌, ◌≤◌, Bool, true, false, cond, ◌&&◌, leb, ◌⊎◌, List, [], ◌∷◌, sym, refl, ap, ◌∙◌, subst, inl, inr, add-zero, add-suc, arith}
+use Rattle.std.proofs.lemmas.Bool.{cond-true, cond-false, cond_both, and_from, and_parts, le-leb, leb-true, both_ways, false≢true, cases_Bool, cases_lt, or_right}
 use Rattle.bringup.specs.declared.end.Phase.{Phase}
-use Rattle.bringup.specs.declared.end.Phase.TheVariants.{Unstarted, SendingCominit, Awaiting, SendingComsas, Falling, Negotiating, Ready, Failed}
+use Rattle.bringup.specs.declared.end.Phase.TheVariants.{Negotiating, Ready, Failed}
 use Rattle.bringup.specs.declared.rate.Rate.{Rate}
 use Rattle.bringup.specs.declared.rate.RateSet.{RateSet}
 use Rattle.bringup.specs.declared.end.Window.{Window}
@@ -18,7 +18,7 @@ use Rattle.bringup.specs.Detection.{passed}
 use Rattle.bringup.specs.declared.detector.Detector.{Detector}
 use Rattle.bringup.specs.declared.end.End.{End}
 use Rattle.agreement.specs.FairLine.{has, is_sign, all_signed}
-use Rattle.agreement.proofs.Machine.{make, ears, window_one, window_all, in_time, window_step, heard, signs_opening, signs_other}
+use Rattle.agreement.proofs.Machine.{make, ears, window_all, in_time, window_step, heard, signs_opening, signs_other}
 use Rattle.agreement.proofs.Stages.{state, In, step}
 
 -- what a window keeps, and how it may change at its tick k

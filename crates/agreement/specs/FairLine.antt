@@ -1,7 +1,6 @@
 -- Two ends on a fair line: what the line promises, and what the two ends then come to.
 use Rattle.std.specs.Prelude.{◌≡◌, ℕ, zero, suc, ◌+◌, ◌-◌, ◌<◌, ◌≤◌, max, Bool, true, false, cond, not, ◌&&◌, ◌||◌, ◌⊎◌, List, [], ◌∷◌, ◌++◌, ◌==◌, ◌≢◌, nat_lt}
 use Rattle.bringup.specs.declared.end.Phase.{Phase}
-use Rattle.bringup.specs.declared.end.Phase.TheVariants.{Unstarted, Negotiating, Ready, Failed}
 use Rattle.bringup.specs.declared.rate.Rate.{Rate}
 use Rattle.bringup.specs.declared.rate.RateSet.{RateSet}
 use Rattle.bringup.specs.declared.end.End.{End}
@@ -13,7 +12,7 @@ use Rattle.bringup.specs.declared.end.Activity.{Activity}
 use Rattle.bringup.specs.declared.end.Activity.TheVariants.{Idle, Burst}
 use Rattle.bringup.specs.declared.end.Activity.TheVariants as sends
 use Rattle.bringup.specs.Bringup.{starting, noting, is_unstarted, signed, tick, sign_at, begun, unused}
-use Rattle.bringup.specs.Rates.{supports, rate_set}
+use Rattle.bringup.specs.Rates.{supports}
 use Rattle.bringup.specs.Asking.{activity, outcome_in}
 
 -- An end after a start, and after a note, declined or not.

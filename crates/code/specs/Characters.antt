@@ -1,6 +1,6 @@
 -- The 8b10b code with two special codes, K28.3 and K28.5. A code is a kind (0 data, 1 special) and a byte, a disparity is 0 (minus) or 1 (plus),
 -- and a character is a number below 1024 whose highest bit is the first one sent.
-use Rattle.std.specs.Prelude.{◌≡◌, ℕ, zero, suc, ◌+◌, ◌-◌, ◌*◌, ◌/◌, ◌%◌, ◌^◌, ◌<◌, Bool, true, false, cond, not, ◌&&◌, ◌||◌, T, List, [], ◌∷◌, Some, None, Option, ◌==◌, nat_lt, slice_index}
+use Rattle.std.specs.Prelude.{◌≡◌, ℕ, zero, suc, ◌+◌, ◌-◌, ◌*◌, ◌/◌, ◌%◌, ◌^◌, ◌<◌, Bool, cond, not, ◌&&◌, ◌||◌, T, List, [], ◌∷◌, Some, None, Option, ◌==◌, nat_lt, slice_index}
 use Rattle.code.specs.declared.character.Code.{Code}
 
 -- The six-bit halves at minus, by the low five bits of the byte.

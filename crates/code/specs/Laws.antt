@@ -1,5 +1,5 @@
 -- Laws of the code, over every valid code, both disparities and every bit.
-use Rattle.std.specs.Prelude.{◌≡◌, ℕ, ◌+◌, ◌-◌, ◌/◌, ◌%◌, ◌<◌, true, false, T, ◌⊎◌, List, [], ◌∷◌, ◌++◌, take, drop, Some, None, Ok, Err}
+use Rattle.std.specs.Prelude.{◌≡◌, ℕ, ◌-◌, ◌/◌, ◌%◌, ◌<◌, true, false, T, ◌⊎◌, List, [], ◌∷◌, ◌++◌, take, drop, Some, None, Ok, Err}
 use Rattle.code.specs.declared.character.Code.{Code}
 use Rattle.code.specs.Bits.{bits_of, number_of, inverted}
 use Rattle.code.specs.Characters.{encoded, decoded, after, used_after, valid, unlike}

@@ -1,5 +1,5 @@
 -- Characters put on a line one after another.
-use Rattle.std.proofs.Common.{◌≡◌, ℕ, ◌+◌, List, ◌++◌, length, ap, ◌∙◌, append_assoc, arith, length-append}
+use Rattle.std.proofs.Common.{◌≡◌, ℕ, ◌+◌, List, ◌++◌, length, ap, ◌∙◌, append_assoc, length-append}
 use Rattle.code.specs.Bits.{bits_of}
 use Rattle.line.specs.Waiting.{Meaning}
 use Rattle.link.specs.Accepting.{followed_by}

@@ -8,7 +8,6 @@ use Rattle.link.specs.declared.reading.Verdict.TheVariants.{Silent, Vouches, Dou
 use Rattle.link.specs.declared.heard.Span.{Span}
 use Rattle.link.specs.declared.heard.Settlement.{Settlement}
 use Rattle.link.specs.declared.heard.Settlement.TheVariants.{Unsettled, Vouched, Doubtful}
-use Rattle.link.specs.declared.heard.Heard.{Heard}
 use Rattle.link.specs.declared.heard.Heard.TheVariants.{More, Slip, Gained, Good, Bad}
 use Rattle.link.specs.declared.state.Framing.{Framing}
 use Rattle.link.specs.declared.state.Ledger.{Ledger}

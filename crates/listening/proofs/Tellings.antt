@@ -1,7 +1,7 @@
 -- Collecting with room for one dword and three reports stops after each answer that is told; so what is collected, the
 -- reports before the dword, are the next lines of the whole.
-use Rattle.std.proofs.Common.{◌≡◌, ℕ, ◌+◌, ◌-◌, ◌<◌, ◌≤◌, Bool, true, false, cond, eqb, ltb, ◌⊎◌, List, [], ◌∷◌, ◌++◌, length, sym, refl, ap, ◌∙◌, subst, ap₂, inl, inr, append_assoc, append-nil, arith, length-append}
-use Rattle.std.proofs.lemmas.Bool.{both_ways, eq-eqb, lt-ltb, eqb-true, cond-true, cond-false, ne_eqb, le-ltb}
+use Rattle.std.proofs.Common.{◌≡◌, ℕ, ◌+◌, ◌-◌, ◌<◌, Bool, true, false, cond, eqb, ltb, ◌⊎◌, List, [], ◌∷◌, ◌++◌, length, sym, refl, ap, ◌∙◌, subst, ap₂, inl, inr, append-nil, arith, length-append}
+use Rattle.std.proofs.lemmas.Bool.{both_ways, eq-eqb, lt-ltb, eqb-true, cond-true, cond-false, ne_eqb}
 use Rattle.link.specs.declared.heard.Settlement.{Settlement}
 use Rattle.link.specs.declared.heard.Settlement.TheVariants.{Unsettled, Vouched, Doubtful}
 use Rattle.link.specs.declared.heard.BadDword.{BadDword}

@@ -1,5 +1,5 @@
 -- One turn of listening: a collection into empty queues with room for one dword and three reports, and the lines of it.
-use Rattle.std.proofs.Common.{◌≡◌, ℕ, ◌+◌, ◌-◌, ◌<◌, List, [], ◌++◌, length, sym, refl, ap, ◌∙◌, subst, ap₂, append_assoc, arith}
+use Rattle.std.proofs.Common.{◌≡◌, ℕ, ◌+◌, ◌<◌, List, [], ◌++◌, length, sym, refl, ap, ◌∙◌, subst, ap₂, append_assoc, arith}
 use Rattle.link.specs.declared.receiver.hearing.HearRefusal.{HearRefusal}
 use Rattle.link.specs.declared.state.State.{State}
 use Rattle.link.specs.Receiving.{most_numbers}

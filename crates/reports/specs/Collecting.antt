@@ -1,6 +1,5 @@
 -- Collecting: what the bits of a tap put into two queues, and why it stops.
 use Rattle.std.specs.Prelude.{◌≡◌, ℕ, ◌+◌, ◌-◌, Bool, cond, List, [], ◌∷◌, ◌++◌, length, ◌==◌, nat_lt}
-use Rattle.line.specs.Waiting.{Meaning}
 use Rattle.link.specs.declared.heard.Settlement.{Settlement}
 use Rattle.link.specs.declared.heard.Settlement.TheVariants as settlement
 use Rattle.link.specs.declared.heard.Settlement.TheVariants.{Unsettled}

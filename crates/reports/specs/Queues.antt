@@ -1,5 +1,5 @@
 -- Queues over borrowed memory: the elements that wait, and what pushing and popping do to them and to the memory.
-use Rattle.std.specs.Prelude.{◌≡◌, ℕ, ◌+◌, ◌-◌, ◌%◌, ◌<◌, ◌≤◌, min, cond, List, [], ◌∷◌, ◌++◌, length, Some, None, Ok, Err, Option, Result, ◌==◌, slice_set}
+use Rattle.std.specs.Prelude.{◌≡◌, ℕ, ◌+◌, ◌-◌, ◌%◌, min, cond, List, [], ◌∷◌, ◌++◌, length, Some, None, Ok, Err, Option, Result, ◌==◌, slice_set}
 use Rattle.code.specs.Refusals.{Refusal, plain}
 use Rattle.reports.specs.declared.queue.Queue.{Queue}
 use Rattle.reports.specs.declared.queue.QueueRefusal.{QueueRefusal}

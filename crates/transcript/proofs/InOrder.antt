@@ -8,7 +8,7 @@ use Rattle.link.specs.declared.heard.Heard.{Heard}
 use Rattle.link.specs.Sending.{ValidDword, dword_bits, stream, disparity_after, c0, c1, c2, c3}
 use Rattle.transcript.proofs.Bits.{K28_5, length_dword}
 use Rattle.transcript.proofs.Running.{readings_of, said, mores, at_start}
-use Rattle.link.specs.Readings.{dword, kind_of, byte_of}
+use Rattle.link.specs.Readings.{kind_of, byte_of}
 use Rattle.link.specs.Hearing.{before_sync}
 use Rattle.transcript.specs.Laws.{Numbered, numbered_from, handed, handed_by, beyond, is_k28_5}
 use Rattle.transcript.proofs.Hunting.{hunting}

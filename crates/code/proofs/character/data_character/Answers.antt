@@ -1,7 +1,5 @@
 use Rattle.std.proofs.Common.{◌≡◌, ℕ, ◌+◌, ◌*◌, ◌/◌, ◌%◌, ◌<◌, sym, ap, ◌∙◌, ap₂, arith}
-use Rattle.code.specs.Characters.{data_character, after, after_half, six_of, four_after, used_after}
-use Rattle.code.specs.Encodings.{followed}
-use Rattle.code.specs.declared.character.Encoded.{Encoded}
+use Rattle.code.specs.Characters.{data_character, after, after_half}
 use Rattle.code.proofs.Halves.{middle_is, after_halves}
 use Rattle.code.proofs.character.data_character.Goals as goal
 

@@ -1,6 +1,6 @@
-use Rattle.std.proofs.Common.{◌≡◌, ℕ, ◌-◌, sym, ap, ◌∙◌, ap₂, arith}
+use Rattle.std.proofs.Common.{◌≡◌, ℕ, sym, ap₂, arith}
 use Rattle.std.proofs.lemmas.Bool.Decides.{nat_tests}
-use Rattle.code.specs.Characters.{special_character, after}
+use Rattle.code.specs.Characters.{special_character}
 use Rattle.code.proofs.Halves.{special_turns}
 use Rattle.code.proofs.character.special_character.Goals as goal
 

@@ -1,6 +1,4 @@
-use Rattle.std.proofs.Common.{◌≡◌, ℕ, ◌+◌, ◌<◌, ◌≤◌, List, [], ◌++◌, length, string_bytes, sym, ap, ◌∙◌, ap₂, append-nil, arith, lit<}
-use Rattle.reports.specs.Queues.{memory_of}
-use Rattle.reports.specs.Collecting.{Collection, collected}
+use Rattle.std.proofs.Common.{◌≡◌, ℕ, List, [], ◌++◌, length, string_bytes, sym, ap, ◌∙◌, append-nil, arith, lit<}
 use Rattle.reports.proofs.Keeping.{kept-size}
 use Rattle.listening.specs.Listening.{told, taken}
 use Rattle.listening.proofs.Tellings.{told_none}

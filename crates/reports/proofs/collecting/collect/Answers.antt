@@ -1,4 +1,4 @@
-use Rattle.std.proofs.Common.{◌≡◌, ℕ, ◌+◌, ◌-◌, ◌<◌, ◌≤◌, cond, eqb, length, Ok, sym, ap, ◌∙◌, ap₂, arith}
+use Rattle.std.proofs.Common.{◌≡◌, ◌+◌, ◌-◌, ◌<◌, cond, eqb, length, Ok, sym, ap, ◌∙◌, ap₂, arith}
 use Rattle.line.specs.Waiting.{Meaning}
 use Rattle.link.specs.declared.state.State.{State}
 use Rattle.link.specs.Receiving.{Outcome, hear_refusal}

@@ -1,11 +1,10 @@
-use Rattle.std.proofs.Common.{◌≡◌, List, [], ◌∷◌, ◌++◌, map, take, vec_items, Result, sym, ap, ◌∙◌, subst}
+use Rattle.std.proofs.Common.{List, [], ◌∷◌, ◌++◌, map, take, vec_items, Result, ap, ◌∙◌, subst}
 use Rattle.std.proofs.lemmas.List.{take_all, map-append}
 use Rattle.code.specs.Refusals.{Refusal}
 use Rattle.agreement.specs.FairLine.{Courses, all_called, both_unused}
 use Rattle.agreement.proofs.Calls.{fair_lines_agree}
 use Rattle.runs.specs.declared.ends.WhichEnd.TheVariants.{First}
 use Rattle.runs.specs.declared.ends.EndStep.TheVariants.{Start}
-use Rattle.runs.specs.declared.ends.EndAnswer.{EndAnswer}
 use Rattle.runs.specs.declared.ends.EndCall.{EndCall}
 use Rattle.runs.specs.EndRuns.{meant, answer_of, all_answers, Stand}
 use Rattle.runs.proofs.EndRuns.{called_more, answered-more}

@@ -1,4 +1,4 @@
-use Rattle.std.proofs.Common.{◌≡◌, ◌≤◌}
+use Rattle.std.proofs.Common.{◌≡◌}
 use Rattle.bringup.specs.Bringup.{ticks}
 use Rattle.bringup.proofs.end.End.advance.Given as goal
 

@@ -1,5 +1,4 @@
-use Rattle.std.proofs.Common.{arith, rules}
-use Rattle.std.proofs.lemmas.Bool.Decides.{nat_tests}
+use Rattle.std.proofs.Common.{rules}
 use Rattle.link.specs.Hearing.{hearing}
 use Rattle.link.proofs.receiver.hearing.hear_bit.Goals as goal
 

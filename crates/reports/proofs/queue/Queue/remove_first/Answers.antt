@@ -1,4 +1,4 @@
-use Rattle.std.proofs.Common.{◌≡◌, ◌-◌, ◌%◌, ◌<◌, min, ◌∷◌, length, sym, refl, ap, ◌∙◌, arith}
+use Rattle.std.proofs.Common.{◌≡◌, ◌-◌, ◌%◌, min, ◌∷◌, length, sym, refl, ap, ◌∙◌, arith}
 use Rattle.line.specs.Cyclic.{cyclic}
 use Rattle.reports.proofs.QueueLaws.{pop_shown}
 use Rattle.reports.proofs.queue.Queue.remove_first.Goals as goal
