@@ -2,6 +2,7 @@
 #![tactic(auto)]
 
 mod character;
+pub mod refusal;
 mod tables;
 
 pub use character::decoding::{DecodeRefusal, Decoded, decode, has_unlike_columns};

@@ -5,6 +5,7 @@ ghost use Rattle.code.specs.Refusals.{numbered};
 ghost use Rattle.code.specs.Decodings.{decode_refusal, decoding};
 
 use super::{Code, K28_3, K28_5, character_of, next_disparity};
+use crate::refusal::Refusal;
 use crate::tables::{HIGH_OF_FOUR, LOW_OF_SIX};
 
 // A code that was read, and the disparity after its character.
@@ -22,11 +23,10 @@ pub enum DecodeRefusal {
     NotInColumn(u8),
 }
 
-impl DecodeRefusal {
-    // The number that the refusal goes by.
-    pub fn number(self) -> u8
-        ensures { result ≡ (decode_refusal self).number }
-    {
+impl Refusal for DecodeRefusal {
+    ghost number_of = { λ r. (decode_refusal r).number };
+
+    fn number(&self) -> u8 {
         match self {
             DecodeRefusal::NotACharacter => 1,
             DecodeRefusal::DisparityAboveOne => 14,

@@ -4,6 +4,7 @@ ghost use Rattle.code.specs.Refusals.{numbered};
 ghost use Rattle.code.specs.Encodings.{encode_refusal, encoding};
 
 use super::{Encoded, K28_3, K28_5, character_of};
+use crate::refusal::Refusal;
 
 #[derive(Clone, Copy)]
 pub enum EncodeRefusal {
@@ -12,11 +13,10 @@ pub enum EncodeRefusal {
     DisparityAboveOne,
 }
 
-impl EncodeRefusal {
-    // The number that the refusal goes by.
-    pub fn number(self) -> u8
-        ensures { result ≡ (encode_refusal self).number }
-    {
+impl Refusal for EncodeRefusal {
+    ghost number_of = { λ r. (encode_refusal r).number };
+
+    fn number(&self) -> u8 {
         match self {
             EncodeRefusal::KindAboveOne => 5,
             EncodeRefusal::NotSpecial => 6,
