@@ -13,3 +13,8 @@ plain n = record { number = n; values = [] }
 abbrev pub numbered : {V E : Type 0} → (E → Refusal) → Result V E → Result V Refusal
 numbered refusal (Ok value) = Ok value
 numbered refusal (Err e) = Err (refusal e)
+
+-- The number of the refusal, or 0 for an answer that is none.
+abbrev pub number_or_zero : {A E : Type 0} → (E → ℕ) → Result A E → ℕ
+number_or_zero number (Ok answer) = 0
+number_or_zero number (Err refusal) = number refusal

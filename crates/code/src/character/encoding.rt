@@ -2,21 +2,23 @@
 ghost use Rattle.std.specs.Prelude.{◌≡◌};
 ghost use Rattle.code.specs.Refusals.{numbered};
 ghost use Rattle.code.specs.Encodings.{encode_refusal, encoding};
+ghost use Rattle.code.specs.declared.character.encoding.EncodeRefusal.TheVariants.{KindAboveOne, DisparityAboveOne};
 
-use super::{Encoded, K28_3, K28_5, character_of};
+use super::numbers::{Disparity, Kind, UnknownDisparity, UnknownKind};
+use super::{Code, Encoded};
+use crate::refusal::Refusal;
 
-#[derive(Clone, Copy)]
+#[derive(Clone, Copy, PartialEq, Eq, Debug)]
 pub enum EncodeRefusal {
     KindAboveOne,
     NotSpecial,
     DisparityAboveOne,
 }
 
-impl EncodeRefusal {
-    // The number that the refusal goes by.
-    pub fn number(self) -> u8
-        ensures { result ≡ (encode_refusal self).number }
-    {
+impl Refusal for EncodeRefusal {
+    ghost number_of = { λ r. (encode_refusal r).number };
+
+    fn number(&self) -> u8 {
         match self {
             EncodeRefusal::KindAboveOne => 5,
             EncodeRefusal::NotSpecial => 6,
@@ -25,18 +27,29 @@ impl EncodeRefusal {
     }
 }
 
+impl From<UnknownKind> for EncodeRefusal {
+    ghost from_gives = { λ unknown refusal. refusal ≡ KindAboveOne };
+
+    fn from(_unknown: UnknownKind) -> EncodeRefusal {
+        EncodeRefusal::KindAboveOne
+    }
+}
+
+impl From<UnknownDisparity> for EncodeRefusal {
+    ghost from_gives = { λ unknown refusal. refusal ≡ DisparityAboveOne };
+
+    fn from(_unknown: UnknownDisparity) -> EncodeRefusal {
+        EncodeRefusal::DisparityAboveOne
+    }
+}
+
 // The character of a code at a disparity, and the disparity after it.
+// Kept: kind and disparity are numbers, since those above 1 are refused by number, and C calls this.
 pub fn encode(kind: u8, byte: u8, disparity: u8) -> Result<Encoded, EncodeRefusal>
     ensures { numbered encode_refusal result ≡ encoding kind byte disparity }
 {
-    if kind > 1 {
-        return Err(EncodeRefusal::KindAboveOne);
-    }
-    if kind == 1 && byte != K28_3 && byte != K28_5 {
-        return Err(EncodeRefusal::NotSpecial);
-    }
-    if disparity > 1 {
-        return Err(EncodeRefusal::DisparityAboveOne);
-    }
-    Ok(character_of(kind, byte, disparity))
+    let kind = Kind::try_from(kind)?;
+    let code = Code::new(kind, byte).ok_or(EncodeRefusal::NotSpecial)?;
+    let disparity = Disparity::try_from(disparity)?;
+    Ok(code.encoded(disparity))
 }
