@@ -1,14 +1,15 @@
 -- Characters heard in sync, at the sender's disparity or at the other.
 use Rattle.std.proofs.Common.{◌≡◌, ℕ, zero, suc, ◌-◌, ◌<◌, Bool, true, false, cond, ◌&&◌, eqb, ltb, ◌⊎◌, List, [], ◌∷◌, Some, None, Option, sym, refl, ap, ◌∙◌, inl, inr, arith}
+use Rattle.std.specs.Option.{option_or}
 use Rattle.std.proofs.lemmas.Bool.{cases_lt, cases_Bool, both_ways, lt-ltb}
 use Rattle.transcript.proofs.CodeFacts.{ValidCode, like_keeps, like_same, turned_leaves, unlike-refused, unlike_sets}
 use Rattle.code.specs.Characters.{encoded, decoded, after, unlike}
 use Rattle.transcript.proofs.Bits.{bits, number, turn}
 use Rattle.link.specs.declared.reading.Reading.{Reading}
 use Rattle.link.specs.declared.reading.Reading.TheVariants.{Refused, Like}
-use Rattle.link.specs.Readings.{reading, read_as, is_refused, or_then}
+use Rattle.link.specs.Readings.{reading, read_as, is_refused, own_verdict}
 use Rattle.link.specs.declared.reading.Verdict.{Verdict}
-use Rattle.link.specs.declared.reading.Verdict.TheVariants.{Silent, Vouches}
+use Rattle.link.specs.declared.reading.Verdict.TheVariants.{Vouches}
 use Rattle.transcript.proofs.CleanDwords.{Reads, reads_column, column}
 use Rattle.code.specs.declared.character.Code.{Code}
 use Rattle.code.proofs.Codes.{code_with}
@@ -114,9 +115,9 @@ pub data Steps : (d e : ℕ) (p : Bool) (d'' e'' : ℕ) (p'' : Bool) → List Ce
   more : {t : Bool} {d e kind byte d' e' d'' e'' : ℕ} {p p' p'' : Bool} {v : Reading} {cells : List Cell} → d < 2 → d' < 2 → Step t d e p kind byte v d' e' p' →
       Steps d' e' p' d'' e'' p'' cells → Steps d e p d'' e'' p'' (record { struck_bit = t; kind = kind; byte = byte; judged_as = v } ∷ cells)
 
-abbrev pub verdict_of : List Cell → Verdict
-verdict_of [] = Silent
-verdict_of (c ∷ cs) = or_then c.judged_as (verdict_of cs)
+abbrev pub verdict_of : List Cell → Option Verdict
+verdict_of [] = None
+verdict_of (c ∷ cs) = option_or (own_verdict c.judged_as) (verdict_of cs)
 
 abbrev pub Goods : List Cell → Type 0
 Goods [] = Unit {0}
@@ -130,7 +131,7 @@ apart : (d e : ℕ) → d < 2 → e ≡ d → e ≡ 1 - d → ⊥
 apart d e h a b = omega arith
 
 -- at the other disparity no character vouches before one is refused
-pub none_vouches : {d e d'' e'' : ℕ} {p p'' : Bool} {cells : List Cell} → Steps d e p d'' e'' p'' cells → e ≡ 1 - d → verdict_of cells ≡ Vouches → ⊥
+pub none_vouches : {d e d'' e'' : ℕ} {p p'' : Bool} {cells : List Cell} → Steps d e p d'' e'' p'' cells → e ≡ 1 - d → verdict_of cells ≡ Some Vouches → ⊥
 none_vouches done wrong says = let z : ◌≡◌ {A = ℕ} 0 1 = cc in omega arith
 none_vouches (more h h' (kept t right reads e) rest) wrong says = apart _ _ h right wrong
 none_vouches (more h h' (blind t w li v e p) rest) wrong says = none_vouches rest e (rw v at says)
