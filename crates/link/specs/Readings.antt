@@ -2,6 +2,7 @@
 use Rattle.std.specs.Prelude.{ℕ, ◌+◌, Bool, true, false, cond, not, ◌&&◌, Some, None, Option, ◌==◌, nat_lt}
 use Rattle.std.specs.Option.{option_or}
 use Rattle.code.specs.declared.character.Code.{Code}
+use Rattle.code.specs.Kinds.{kind_number, code_with}
 use Rattle.code.specs.Characters.{decoded, unlike}
 use Rattle.link.specs.declared.dword.Dword.{Dword}
 use Rattle.link.specs.declared.reading.Reading.{Reading}
@@ -13,7 +14,7 @@ use Rattle.link.specs.declared.reading.Verdict.TheVariants.{Vouches, Doubts}
 -- A code at a place of a dword: a special one is refused at places 1 to 3.
 abbrev pub placed : ℕ → Code → Reading
 placed place code =
-    cond (nat_lt 0 place && code.kind == 1) Refused (cond (unlike code.kind code.byte) (Unlike code) (Like code))
+    cond (nat_lt 0 place && kind_number code.kind == 1) Refused (cond (unlike (kind_number code.kind) code.byte) (Unlike code) (Like code))
 
 abbrev pub read_as : ℕ → Option Code → Reading
 read_as place None = Refused
@@ -28,15 +29,17 @@ is_refused Refused = true
 is_refused (Like code) = false
 is_refused (Unlike code) = false
 
+-- The code, of which a refused character has none.
+abbrev pub code_of : Reading → Code
+code_of Refused = code_with 0 0
+code_of (Like code) = code
+code_of (Unlike code) = code
+
 abbrev pub kind_of : Reading → ℕ
-kind_of Refused = 0
-kind_of (Like code) = code.kind
-kind_of (Unlike code) = code.kind
+kind_of reading = kind_number (code_of reading).kind
 
 abbrev pub byte_of : Reading → ℕ
-byte_of Refused = 0
-byte_of (Like code) = code.byte
-byte_of (Unlike code) = code.byte
+byte_of reading = (code_of reading).byte
 
 -- The sum of 1, 2, 4 and 8 for the refused places 0 to 3.
 abbrev pub weight : Reading → ℕ → ℕ

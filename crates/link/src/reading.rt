@@ -1,9 +1,9 @@
 // Characters as a receiver reads them, and the four of a dword.
 ghost use Rattle.std.specs.Prelude.{◌≡◌, ◌≤◌};
-ghost use Rattle.link.specs.Readings.{placed, is_refused, kind_of, byte_of, weight, mask, is_good, dword, own_verdict, verdict};
+ghost use Rattle.link.specs.Readings.{placed, is_refused, code_of, weight, mask, is_good, dword, own_verdict, verdict};
 
 use crate::dword::Dword;
-use code::{Code, has_unlike_columns};
+use code::{Code, Kind};
 
 // What a character was read as: refused, or a code, by whether its two columns are alike.
 #[derive(Clone, Copy)]
@@ -34,10 +34,10 @@ impl Reading {
     pub fn at_place(place: u8, code: Code) -> Reading
         ensures { result ≡ placed place code }
     {
-        if place > 0 && code.kind == 1 {
+        if place > 0 && code.kind == Kind::Special {
             return Reading::Refused;
         }
-        if has_unlike_columns(code) {
+        if code.has_unlike_columns() {
             Reading::Unlike(code)
         } else {
             Reading::Like(code)
@@ -52,10 +52,13 @@ impl Reading {
 
     // The code, of which a refused character has none.
     fn code(self) -> Code
-        ensures { result ≡ record { kind = kind_of self; byte = byte_of self } }
+        ensures { result ≡ code_of self }
     {
         match self {
-            Reading::Refused => Code { kind: 0, byte: 0 },
+            Reading::Refused => Code {
+                kind: Kind::Data,
+                byte: 0,
+            },
             Reading::Like(code) => code,
             Reading::Unlike(code) => code,
         }
@@ -104,7 +107,7 @@ impl Readings {
     {
         let first = self.first.code();
         Dword {
-            kind: first.kind,
+            kind: first.kind.into(),
             b0: first.byte,
             b1: self.second.code().byte,
             b2: self.third.code().byte,

@@ -7,13 +7,12 @@ ghost use Rattle.link.specs.Hearing.{fresh, empty_frame, settlement, still_pendi
 ghost use Rattle.link.specs.Sound.{SoundLedger, Sound};
 ghost use Rattle.link.specs.Receiving.{hear_refusal, heard_from, Untouched};
 
-use crate::dword::K28_5;
 use crate::heard::{BadDword, GoodDword, Heard, Settlement, Span};
 use crate::reading::{Reading, Readings, Verdict};
 use crate::receiver::Receiver;
 use crate::state::{Closing, Framing, Hearing, Ledger, State};
 use code::refusal::Refusal;
-use code::{DecodeRefusal, decode};
+use code::{DecodeRefusal, K28_5, decode};
 use line::tap::Tap;
 
 // A K28.5 begins with one of these seven bits, at minus and at plus.

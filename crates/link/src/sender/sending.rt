@@ -7,10 +7,10 @@ ghost use Rattle.line.specs.Writing.{Still};
 ghost use Rattle.link.specs.Sending.{ValidDword, disparity_after, dword_bits, send_refusal, sending};
 ghost use Rattle.link.specs.Accepting.{Accepted, checked_dword, checked_room, followed_by};
 
-use crate::dword::{Dword, K28_3, K28_5};
+use crate::dword::Dword;
 use crate::sender::{SendRefusal, Sender};
-use code::encode;
 use code::refusal::Refusal;
+use code::{K28_3, K28_5, encode};
 use line::tap::Line;
 
 // The bits of a dword.
