@@ -7,8 +7,8 @@ use Rattle.line.specs.Waiting.{Meaning, with_first}
 use Rattle.link.specs.declared.heard.Heard.{Heard}
 use Rattle.link.specs.declared.heard.Heard.TheVariants.{Dry, More, Slip, Gained, Good, Bad}
 use Rattle.link.specs.declared.reading.Readings.{Readings}
-use Rattle.link.specs.declared.state.Closing.{Closing}
-use Rattle.link.specs.declared.state.Hearing.{Hearing}
+use Rattle.link.specs.Hearing.{Closing}
+use Rattle.link.specs.Hearing.{Hearing}
 use Rattle.link.specs.declared.state.Ledger.{Ledger}
 use Rattle.link.specs.declared.state.State.{State}
 use Rattle.link.specs.Readings.{is_good}

@@ -1,5 +1,7 @@
 // What a receiver keeps.
-use crate::heard::Heard;
+ghost use Rattle.std.specs.Prelude.{◌≡◌};
+ghost use Rattle.link.specs.Hearing.{empty_frame, fresh};
+
 use crate::reading::Reading;
 
 // Where the receiver stands in the bits: while hunting, the last bits for a comma; else the loose bits, which make no
@@ -13,6 +15,23 @@ pub struct Framing {
     pub first: Reading,
     pub second: Reading,
     pub third: Reading,
+}
+
+impl Framing {
+    // No bit and no character yet, of a comma or of a dword.
+    pub fn empty(hunting: bool) -> Framing
+        ensures { result ≡ empty_frame hunting }
+    {
+        Framing {
+            hunting,
+            loose: 0,
+            held: 0,
+            place: 0,
+            first: Reading::Refused,
+            second: Reading::Refused,
+            third: Reading::Refused,
+        }
+    }
 }
 
 // Where it stands in the dwords: before sync the K28.5 primitives counted; in sync the debts, and whether the latest
@@ -36,17 +55,22 @@ pub struct State {
     pub ledger: Ledger,
 }
 
-// The state after a bit, and the answer.
-#[derive(Clone, Copy)]
-pub struct Hearing {
-    pub state: State,
-    pub heard: Heard,
-}
-
-// The end of a dword: whether hunting begins again, the ledger after it, and the answer.
-#[derive(Clone, Copy)]
-pub struct Closing {
-    pub hunting: bool,
-    pub ledger: Ledger,
-    pub heard: Heard,
+impl State {
+    // Nothing is heard yet.
+    pub fn fresh() -> State
+        ensures { result ≡ fresh }
+    {
+        State {
+            framing: Framing::empty(true),
+            disparity: 0,
+            ledger: Ledger {
+                synced: false,
+                count: 0,
+                number: 0,
+                debt: 0,
+                single: false,
+                pending: 0,
+            },
+        }
+    }
 }

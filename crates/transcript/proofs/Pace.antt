@@ -6,8 +6,8 @@ use Rattle.link.specs.declared.heard.Heard.TheVariants.{Dry, More, Gained}
 use Rattle.link.specs.declared.reading.Readings.{Readings}
 use Rattle.link.specs.declared.state.Ledger.{Ledger}
 use Rattle.link.specs.declared.state.State.{State}
-use Rattle.link.specs.declared.state.Hearing.{Hearing}
-use Rattle.link.specs.declared.state.Closing.{Closing}
+use Rattle.link.specs.Hearing.{Hearing}
+use Rattle.link.specs.Hearing.{Closing}
 use Rattle.link.specs.Readings.{is_good}
 use Rattle.link.specs.Hearing.{hearing, completed, fresh, in_sync, handed_out, reported, closing, before_sync, is_k28_5, readings_with, after_dword}
 use Rattle.code.specs.Characters.{after}

@@ -4,7 +4,7 @@ use Rattle.std.specs.Option.{option_map, option_or}
 use Rattle.std.proofs.lemmas.Bool.{cases_lt, cases_Bool, and_parts, eqb-false, not-true, cond-true, cond-false}
 use Rattle.link.specs.declared.dword.Dword.{Dword}
 use Rattle.link.specs.declared.state.Ledger.{Ledger}
-use Rattle.link.specs.declared.state.Closing.{Closing}
+use Rattle.link.specs.Hearing.{Closing}
 use Rattle.link.specs.declared.heard.Heard.{Heard}
 use Rattle.link.specs.declared.reading.Readings.{Readings}
 use Rattle.link.specs.Readings.{is_refused, is_good, dword, own_verdict, verdict}
