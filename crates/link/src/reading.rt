@@ -6,7 +6,7 @@ use crate::dword::Dword;
 use code::{Code, Kind};
 
 // What a character was read as: refused, or a code, by whether its two columns are alike.
-#[derive(Clone, Copy)]
+#[derive(Clone, Copy, PartialEq, Eq, Debug)]
 pub enum Reading {
     Refused,
     Like(Code),
@@ -14,7 +14,8 @@ pub enum Reading {
 }
 
 // The readings of a dword's four characters.
-#[derive(Clone, Copy)]
+// Kept: four named fields, as what is said of a dword's places has a field for each.
+#[derive(Clone, Copy, PartialEq, Eq, Debug)]
 pub struct Readings {
     pub first: Reading,
     pub second: Reading,

@@ -47,6 +47,22 @@ pub struct Ledger {
     pub pending: u32,
 }
 
+impl Ledger {
+    // No dword is heard yet.
+    pub fn fresh() -> Ledger
+        ensures { result ≡ fresh.ledger }
+    {
+        Ledger {
+            synced: false,
+            count: 0,
+            number: 0,
+            debt: 0,
+            single: false,
+            pending: 0,
+        }
+    }
+}
+
 // The disparity is that of the next character.
 #[derive(Clone, Copy)]
 pub struct State {
@@ -63,14 +79,7 @@ impl State {
         State {
             framing: Framing::empty(true),
             disparity: 0,
-            ledger: Ledger {
-                synced: false,
-                count: 0,
-                number: 0,
-                debt: 0,
-                single: false,
-                pending: 0,
-            },
+            ledger: Ledger::fresh(),
         }
     }
 }

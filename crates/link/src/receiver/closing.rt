@@ -1,5 +1,5 @@
 // Closing: what the end of a dword changes, and what is said of it.
-ghost use Rattle.std.specs.Prelude.{◌≡◌, ◌<◌, ◌≤◌, ◌==◌};
+ghost use Rattle.std.specs.Prelude.{◌≡◌, ◌<◌, ◌≤◌, false, ◌==◌};
 ghost use Rattle.link.specs.Readings.{dword as dword_of};
 ghost use Rattle.link.specs.Hearing.{settlement, still_pending, before_sync, handed_out, reported, after_dword};
 
@@ -39,14 +39,14 @@ impl Receiver {
     }
 
     // The end of a dword before sync.
-    #[tactic(auto, using(std::proofs::lemmas::Bool::Decides::nat_tests), unfolding(crate::specs::Hearing::before_sync))]
+    #[tactic(auto, unfolding(crate::specs::Hearing::before_sync))]
     pub(super) fn close_before_sync(&mut self, readings: Readings) -> Heard
+        requires { self.old.state.ledger.synced ≡ false }
         ensures heard { result ≡ (before_sync readings self.old.state.ledger).heard }
         ensures state { self.new.state ≡ (after_dword self.old.state.disparity (before_sync readings self.old.state.ledger)).state }
     {
         let Some(dword) = readings.dword() else {
             self.state.framing = Framing::empty(true);
-            self.state.ledger.synced = false;
             self.state.ledger.count = 0;
             return Heard::Slip;
         };
@@ -57,22 +57,18 @@ impl Receiver {
         if self.state.ledger.count == 2 {
             self.state.ledger = Ledger {
                 synced: true,
-                count: 0,
                 number: self.state.ledger.number,
-                debt: 0,
-                single: false,
-                pending: 0,
+                ..Ledger::fresh()
             };
             return Heard::Gained;
         }
-        self.state.ledger.synced = false;
         self.state.ledger.count += 1;
         Heard::More
     }
 
     // The end of a good dword in sync, which is handed out.
     pub(super) fn hand_out(&mut self, readings: Readings, dword: Dword) -> Heard
-        requires { (self.old.state.ledger.number < 4294967295) × (dword ≡ dword_of readings) }
+        requires { (self.old.state.ledger.number < u32.MAX) × (dword ≡ dword_of readings) }
         ensures heard { result ≡ (handed_out readings self.old.state.ledger).heard }
         ensures state { self.new.state ≡ (after_dword self.old.state.disparity (handed_out readings self.old.state.ledger)).state }
     {
@@ -102,7 +98,7 @@ impl Receiver {
 
     // The end of a bad dword in sync, which is reported.
     pub(super) fn report(&mut self, readings: Readings) -> Heard
-        requires { self.old.state.ledger.number < 4294967295 }
+        requires { self.old.state.ledger.number < u32.MAX }
         ensures heard { result ≡ (reported readings self.old.state.ledger (self.old.state.ledger.debt == 3)).heard }
         ensures state { self.new.state ≡ (after_dword self.old.state.disparity (reported readings self.old.state.ledger (self.old.state.ledger.debt == 3))).state }
     {
@@ -113,11 +109,9 @@ impl Receiver {
         self.state.framing = Framing::empty(lost);
         self.state.ledger = Ledger {
             synced: !lost,
-            count: 0,
             number: ledger.number + 1,
             debt,
-            single: false,
-            pending: 0,
+            ..Ledger::fresh()
         };
         Heard::Bad(BadDword {
             settlement,

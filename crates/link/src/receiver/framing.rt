@@ -1,5 +1,5 @@
 // Framing: from bits to the four characters of a dword.
-ghost use Rattle.std.specs.Prelude.{◌≡◌, ◌+◌, ◌*◌, ◌%◌, ◌<◌, min, if◌then◌else◌, ◌==◌};
+ghost use Rattle.std.specs.Prelude.{◌≡◌, ◌+◌, ◌*◌, ◌%◌, ◌<◌, min, if◌then◌else◌, ◌&&◌, ◌==◌};
 ghost use Rattle.code.specs.Characters.{after};
 ghost use Rattle.link.specs.Readings.{reading};
 ghost use Rattle.link.specs.Hearing.{hunted, completed, hearing, ended};
@@ -14,13 +14,13 @@ const COMMA_AT_MINUS: u16 = 0b0011111;
 
 const COMMA_AT_PLUS: u16 = 0b1100000;
 
-// The disparity at which a K28.5 begins with these seven bits, if one does.
-fn comma_disparity(window: u16) -> Option<u8>
-    ensures { result ≡ (if window == 0b0011111 then Some 0 else (if window == 0b1100000 then Some 1 else None)) }
+// The disparity at which a K28.5 begins with these bits, if they are seven and one does.
+fn comma_disparity(held: u8, window: u16) -> Option<u8>
+    ensures { result ≡ (if held == 7 && window == 0b0011111 then Some 0 else (if held == 7 && window == 0b1100000 then Some 1 else None)) }
 {
-    match window {
-        COMMA_AT_MINUS => Some(0),
-        COMMA_AT_PLUS => Some(1),
+    match (held, window) {
+        (7, COMMA_AT_MINUS) => Some(0),
+        (7, COMMA_AT_PLUS) => Some(1),
         _ => None,
     }
 }
@@ -41,17 +41,14 @@ fn read_character(character: u16, disparity: u8, place: u8) -> (Reading, u8)
 
 impl Receiver {
     // Hunting goes on with the last seven bits, or they are a comma.
+    #[tactic(auto, using(crate::proofs::Fits::window_fits))]
     fn hunt(&mut self, bit: u8)
         requires { bit < 2 }
         ensures { self.new.state ≡ hunted self.old.state ((self.old.state.framing.loose * 2 + bit) % 128) (min 7 (self.old.state.framing.held + 1)) }
     {
         let window = (self.state.framing.loose * 2 + bit as u16) % 128;
         let held = (self.state.framing.held + 1).min(7);
-        let comma = if held == 7 {
-            comma_disparity(window)
-        } else {
-            None
-        };
+        let comma = comma_disparity(held, window);
         self.state.framing = Framing {
             loose: window,
             held,
@@ -63,7 +60,7 @@ impl Receiver {
     }
 
     // Ten bits make a character, four characters a dword.
-    #[tactic(auto, using(std::proofs::lemmas::Bool::Decides::nat_tests), unfolding(crate::specs::Hearing::completed))]
+    #[tactic(auto, unfolding(crate::specs::Hearing::completed))]
     fn complete(&mut self, character: u16) -> Option<Readings>
         requires { character < 1024 }
         ensures is { completed self.old.state character ≡ ended result self.new.state }
@@ -99,7 +96,7 @@ impl Receiver {
     }
 
     // One more bit; the last of a dword gives the readings of its characters.
-    #[tactic(auto, using(std::proofs::lemmas::Bool::Decides::nat_tests), unfolding(crate::specs::Hearing::hearing))]
+    #[tactic(auto, unfolding(crate::specs::Hearing::hearing))]
     pub(super) fn frame(&mut self, bit: u8) -> Option<Readings>
         requires { bit < 2 }
         ensures is { hearing self.old.state bit ≡ ended result self.new.state }

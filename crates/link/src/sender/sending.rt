@@ -53,6 +53,7 @@ fn check_room<L: Line>(line: &L) -> Result<(), SendRefusal>
 }
 
 // Puts the character of a code, and answers the disparity after it.
+#[tactic(auto, using(code::proofs::Laws::characters_fit, code::proofs::Laws::disparity_fits, crate::proofs::Puttings::ten_longer))]
 fn put_code<L: Line>(line: &mut L, kind: u8, byte: u8, disparity: u8) -> u8
     requires { (T (valid kind byte)) × ((disparity < 2) × (length (L.Tap.meaning line.old).waiting + 10 ≤ (L.Tap.meaning line.old).capacity)) }
     ensures line { L.Tap.meaning line.new ≡ followed_by (L.Tap.meaning line.old) (bits_of 10 (encoded kind byte disparity)) }
@@ -70,6 +71,7 @@ fn put_code<L: Line>(line: &mut L, kind: u8, byte: u8, disparity: u8) -> u8
 }
 
 // Puts the four characters of a dword, and answers the disparity after them.
+#[tactic(auto, using(crate::proofs::Puttings::dword_put))]
 fn put_dword<L: Line>(line: &mut L, dword: Dword, disparity: u8) -> u8
     requires { (T (valid dword.kind dword.b0)) × ((disparity < 2) × (length (L.Tap.meaning line.old).waiting + 40 ≤ (L.Tap.meaning line.old).capacity)) }
     ensures line { L.Tap.meaning line.new ≡ followed_by (L.Tap.meaning line.old) (dword_bits disparity dword) }
