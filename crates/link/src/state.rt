@@ -4,6 +4,8 @@ ghost use Rattle.link.specs.Hearing.{empty_frame, fresh};
 
 use crate::reading::Reading;
 
+// Kept: flags and plain numbers, no enum of phases: the rules want the invariant in the receiver over number fields.
+
 // Where the receiver stands in the bits: while hunting, the last bits for a comma; else the loose bits, which make no
 // character yet, the place of the next character, and the readings of the three before it, the latest third.
 #[derive(Clone, Copy)]

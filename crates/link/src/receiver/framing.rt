@@ -35,6 +35,7 @@ fn read_character(character: u16, disparity: u8, place: u8) -> (Reading, u8)
     match decode(character, disparity) {
         Ok(decoded) => (Reading::at_place(place, decoded.code), decoded.disparity),
         Err(DecodeRefusal::NotInColumn(next)) => (Reading::Refused, next),
+        // Kept: decoding refuses these by number, so no type of its arguments rules them out.
         Err(DecodeRefusal::NotACharacter | DecodeRefusal::DisparityAboveOne) => unreachable(),
     }
 }
