@@ -5,7 +5,7 @@ use Rattle.std.proofs.lemmas.List.{take_all}
 use Rattle.std.proofs.lemmas.Bool.{cases_Bool, cases_eq, both_ways}
 use Rattle.link.specs.declared.dword.Dword.{Dword}
 use Rattle.link.specs.declared.state.Ledger.{Ledger}
-use Rattle.link.specs.Hearing.{Closing}
+use Rattle.link.specs.Hearing.{Closing, settlement, handed_out, reported}
 use Rattle.link.specs.declared.heard.BadDword.{BadDword}
 use Rattle.link.specs.declared.heard.Heard.{Heard}
 use Rattle.link.specs.declared.heard.Heard.TheVariants.{Bad}
@@ -16,7 +16,6 @@ use Rattle.link.specs.declared.reading.Readings.{Readings}
 use Rattle.link.specs.declared.reading.Reading.{Reading}
 use Rattle.link.specs.declared.reading.Reading.TheVariants.{Refused}
 use Rattle.link.specs.Readings.{is_refused, is_good, mask, verdict}
-use Rattle.link.specs.Hearing.{settlement, handed_out, reported}
 use Rattle.transcript.specs.Laws.{kind_at, byte_at}
 use Rattle.transcript.proofs.HandedOut.{alike_take}
 use Rattle.transcript.proofs.Track.{Cell, Nth, here, there}
@@ -106,7 +105,7 @@ first_says d e w ws x r c long lt nth =
     (subst (λ b. Says c x b (10 * r)) (code_dword d w) (says_at (syms w) 0 d e x (omega arith) nth)))
 
 pub cell_at : (vs : List Dword) (d e : ℕ) (x : List ℕ) (j r : ℕ) → j < length vs → r < 4 → 40 * length vs ≤ length x → CellAt d e vs x j r
-cell_at [] d e x j r lt lr long = absurd (let z : ⊥ = omega arith in z)
+cell_at [] d e x j r lt lr long = absurd (omega arith)
 cell_at (w ∷ ws) d e x zero zero lt lr long =
     record { cell = _; nth = here; says = first_says d e w ws x 0 _ (omega arith) lr here; w = w; nth_w = here; kind_is = refl; byte_is = refl; in_pair = pair e w x; nth_pair = here; judged_is = refl }
 cell_at (w ∷ ws) d e x zero (suc zero) lt lr long =
@@ -115,7 +114,7 @@ cell_at (w ∷ ws) d e x zero (suc (suc zero)) lt lr long =
     record { cell = _; nth = there (there here); says = first_says d e w ws x 2 _ (omega arith) lr (there (there here)); w = w; nth_w = here; kind_is = refl; byte_is = refl; in_pair = pair e w x; nth_pair = here; judged_is = refl }
 cell_at (w ∷ ws) d e x zero (suc (suc (suc zero))) lt lr long =
     record { cell = _; nth = there (there (there here)); says = first_says d e w ws x 3 _ (omega arith) lr (there (there (there here))); w = w; nth_w = here; kind_is = refl; byte_is = refl; in_pair = pair e w x; nth_pair = here; judged_is = refl }
-cell_at (w ∷ ws) d e x zero (suc (suc (suc (suc r)))) lt lr long = absurd (let z : ⊥ = omega arith in z)
+cell_at (w ∷ ws) d e x zero (suc (suc (suc (suc r)))) lt lr long = absurd (omega arith)
 cell_at (w ∷ ws) d e x (suc j) r lt lr long =
     let ih = cell_at ws (disparity_after d w) (e_end e (syms w) x) (drop4 x) j r (omega arith) lr (omega (arith, length_drop4 x)) in
     record {
@@ -158,7 +157,7 @@ mask_bit j r lt is =
     at (suc zero) lt n₀ n₁ n₂ n₃ h₀ h₁ h₂ h₃ f₀ f₁ f₂ f₃ = let o = f₁ refl in omega arith
     at (suc (suc zero)) lt n₀ n₁ n₂ n₃ h₀ h₁ h₂ h₃ f₀ f₁ f₂ f₃ = let o = f₂ refl in omega arith
     at (suc (suc (suc zero))) lt n₀ n₁ n₂ n₃ h₀ h₁ h₂ h₃ f₀ f₁ f₂ f₃ = let o = f₃ refl in omega arith
-    at (suc (suc (suc (suc r)))) lt n₀ n₁ n₂ n₃ h₀ h₁ h₂ h₃ f₀ f₁ f₂ f₃ = absurd (let z : ⊥ = omega arith in z)
+    at (suc (suc (suc (suc r)))) lt n₀ n₁ n₂ n₃ h₀ h₁ h₂ h₃ f₀ f₁ f₂ f₃ = absurd (omega arith)
 
 -- and makes the dword bad
 pub refused_bad : (j : Readings) (r : ℕ) → reading_at r j ≡ Refused → is_good j ≡ false

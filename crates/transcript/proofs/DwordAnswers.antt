@@ -4,7 +4,7 @@ use lib.ListN.{length-replicate}
 use Rattle.std.proofs.lemmas.Bool.{cases_Bool}
 use Rattle.link.specs.declared.dword.Dword.{Dword}
 use Rattle.link.specs.declared.state.Ledger.{Ledger}
-use Rattle.link.specs.Hearing.{Closing}
+use Rattle.link.specs.Hearing.{Closing, in_sync, handed_out, reported, after_dword}
 use Rattle.link.specs.declared.heard.Heard.{Heard}
 use Rattle.link.specs.declared.heard.Heard.TheVariants.{More}
 use Rattle.transcript.proofs.Bits.{number}
@@ -13,7 +13,6 @@ use Rattle.transcript.proofs.Running.{readings_of, after_four, said, mores, at_s
 use Rattle.link.specs.Readings.{is_good}
 use Rattle.transcript.specs.Laws.{until_lost}
 use Rattle.link.specs.declared.reading.Reading.TheVariants.{Refused}
-use Rattle.link.specs.Hearing.{in_sync, handed_out, reported, after_dword}
 use Rattle.transcript.proofs.Track.{Nth, here, there}
 use Rattle.transcript.proofs.Vouching.{replies, closes_good, closes_bad}
 use Rattle.transcript.proofs.Spacing.{e_end}
@@ -21,16 +20,16 @@ use Rattle.transcript.proofs.Dwords.{syms, drop4, length_drop4, pairs}
 
 ten_take : (x : List ℕ) → 10 ≤ length x → Ten (take 10 x)
 ten_take (a ∷ b ∷ c ∷ d ∷ e ∷ i ∷ f ∷ g ∷ h ∷ j ∷ x) l = ten_bits a b c d e i f g h j
-ten_take [] l = absurd (let z : ⊥ = omega arith in z)
-ten_take (a ∷ []) l = absurd (let z : ⊥ = omega arith in z)
-ten_take (a ∷ b ∷ []) l = absurd (let z : ⊥ = omega arith in z)
-ten_take (a ∷ b ∷ c ∷ []) l = absurd (let z : ⊥ = omega arith in z)
-ten_take (a ∷ b ∷ c ∷ d ∷ []) l = absurd (let z : ⊥ = omega arith in z)
-ten_take (a ∷ b ∷ c ∷ d ∷ e ∷ []) l = absurd (let z : ⊥ = omega arith in z)
-ten_take (a ∷ b ∷ c ∷ d ∷ e ∷ i ∷ []) l = absurd (let z : ⊥ = omega arith in z)
-ten_take (a ∷ b ∷ c ∷ d ∷ e ∷ i ∷ f ∷ []) l = absurd (let z : ⊥ = omega arith in z)
-ten_take (a ∷ b ∷ c ∷ d ∷ e ∷ i ∷ f ∷ g ∷ []) l = absurd (let z : ⊥ = omega arith in z)
-ten_take (a ∷ b ∷ c ∷ d ∷ e ∷ i ∷ f ∷ g ∷ h ∷ []) l = absurd (let z : ⊥ = omega arith in z)
+ten_take [] l = absurd (omega arith)
+ten_take (a ∷ []) l = absurd (omega arith)
+ten_take (a ∷ b ∷ []) l = absurd (omega arith)
+ten_take (a ∷ b ∷ c ∷ []) l = absurd (omega arith)
+ten_take (a ∷ b ∷ c ∷ d ∷ []) l = absurd (omega arith)
+ten_take (a ∷ b ∷ c ∷ d ∷ e ∷ []) l = absurd (omega arith)
+ten_take (a ∷ b ∷ c ∷ d ∷ e ∷ i ∷ []) l = absurd (omega arith)
+ten_take (a ∷ b ∷ c ∷ d ∷ e ∷ i ∷ f ∷ []) l = absurd (omega arith)
+ten_take (a ∷ b ∷ c ∷ d ∷ e ∷ i ∷ f ∷ g ∷ []) l = absurd (omega arith)
+ten_take (a ∷ b ∷ c ∷ d ∷ e ∷ i ∷ f ∷ g ∷ h ∷ []) l = absurd (omega arith)
 
 -- the readings of forty bits, and the disparity after them
 abbrev readings_at : ℕ → List ℕ → Readings

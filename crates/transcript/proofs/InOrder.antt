@@ -10,10 +10,9 @@ use Rattle.transcript.proofs.Bits.{K28_5, length_dword}
 use Rattle.transcript.proofs.Running.{readings_of, said, mores, at_start}
 use Rattle.link.specs.Readings.{kind_of, byte_of}
 use Rattle.link.specs.Hearing.{before_sync}
-use Rattle.transcript.specs.Laws.{Numbered, numbered_from, handed, handed_by, beyond, is_k28_5}
+use Rattle.transcript.specs.Laws.{Numbered, numbered_from, handed, handed_by, beyond, is_k28_5, AllValid}
 use Rattle.transcript.proofs.Hunting.{hunting}
 use Rattle.transcript.proofs.Commas.{hunt_over}
-use Rattle.transcript.specs.Laws.{AllValid}
 use Rattle.transcript.proofs.CleanDwords.{match_dword, said_clean, judged_clean}
 use Rattle.code.proofs.Laws.{disparity_fits}
 

@@ -8,10 +8,8 @@ use Rattle.link.specs.declared.reading.Verdict.{Verdict}
 use Rattle.link.specs.declared.reading.Readings.{Readings}
 use Rattle.link.specs.declared.state.Ledger.{Ledger}
 use Rattle.link.specs.declared.state.State.{State}
-use Rattle.link.specs.Hearing.{Hearing}
-use Rattle.link.specs.Hearing.{Closing}
+use Rattle.link.specs.Hearing.{Hearing, Closing, hearing, completed, closing, before_sync, is_k28_5, readings_with, settlement, still_pending}
 use Rattle.link.specs.Readings.{is_good, verdict}
-use Rattle.link.specs.Hearing.{hearing, completed, closing, before_sync, is_k28_5, readings_with, settlement, still_pending}
 use Rattle.transcript.specs.History.{heard_deed, hearing_deed}
 use Rattle.transcript.specs.Answering.{numbers_by}
 use Rattle.transcript.specs.Laws.{VouchedBy}

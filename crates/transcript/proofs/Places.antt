@@ -3,11 +3,10 @@ use Rattle.std.proofs.Common.{◌≡◌, ℕ, zero, suc, ◌+◌, ◌<◌, ◌�
 use Rattle.std.proofs.lemmas.Bool.{cases_Bool}
 use Rattle.link.specs.declared.dword.Dword.{Dword}
 use Rattle.link.specs.declared.state.Ledger.{Ledger}
-use Rattle.link.specs.Hearing.{Closing}
+use Rattle.link.specs.Hearing.{Closing, settlement, handed_out, reported}
 use Rattle.link.specs.declared.heard.Heard.{Heard}
 use Rattle.link.specs.declared.heard.Heard.TheVariants.{Dry, More, Slip, Gained, Good, Bad}
 use Rattle.link.specs.Readings.{dword, is_good, verdict}
-use Rattle.link.specs.Hearing.{settlement, handed_out, reported}
 use Rattle.link.specs.declared.heard.GoodDword.{GoodDword}
 use Rattle.link.specs.declared.heard.BadDword.{BadDword}
 use Rattle.transcript.specs.Laws.{until_lost}
@@ -78,7 +77,7 @@ lost_again (Bad b ∷ rest) = ap (λ r. Bad b ∷ r) (stop_again b.lost (until_l
 
 -- no good dword is a bad one
 good_or_bad : (g : GoodDword) (b : BadDword) → Good g ≡ Bad b → ⊥
-good_or_bad g b e = let z : ◌≡◌ {A = ℕ} 0 1 = cc in omega arith
+good_or_bad g b e = cc
 
 -- a dword handed out in sync has the number of its place
 pub reply_good : (ps : List Pair) (l : Ledger) {j : ℕ} {g : GoodDword} → Nth (replies l ps) j (Good g)

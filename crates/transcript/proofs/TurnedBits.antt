@@ -16,12 +16,11 @@ use Rattle.link.specs.Readings.{dword, mask}
 use Rattle.link.specs.declared.reading.Reading.TheVariants.{Refused}
 use Rattle.transcript.specs.History.{History, sent, skipped, answers, put, carried, HearsAlone}
 use Rattle.transcript.proofs.Runs.{Run}
-use Rattle.transcript.specs.Laws.{TurnedBit, until_lost, kept, kept_end, AnswerAt, Spaced, Clean, UnlikeAt, VouchedBy, VouchedIsSent, SentAt, RefusedAt, NextUnlike, TurnedIsRefused, no_dword, kind_at, byte_at}
+use Rattle.transcript.specs.Laws.{TurnedBit, until_lost, kept, kept_end, AnswerAt, Spaced, Clean, UnlikeAt, VouchedBy, VouchedIsSent, SentAt, RefusedAt, NextUnlike, TurnedIsRefused, no_dword, kind_at, byte_at, AllValid}
 use Rattle.transcript.proofs.Bits.{get_d_past}
 use Rattle.transcript.proofs.Running.{said, said_take, length_said, mores, at_start}
 use Rattle.transcript.proofs.Hunting.{Bits}
 use Rattle.transcript.proofs.Commas.{BitsDrop, BitsStream}
-use Rattle.transcript.specs.Laws.{AllValid}
 use Rattle.transcript.proofs.InOrder.{synced}
 use Rattle.transcript.proofs.Told.{told, heard_as}
 use Rattle.transcript.proofs.HandedOut.{alike_take}
@@ -75,7 +74,7 @@ module _ (d₀ : ℕ) (small₀ : d₀ < 2) (h : History) (q₀ : List ℕ) (d�
   -- no bit is turned before sync is gained, wherever the stream as put would gain it
   pub early_clean : Spaced d₀ h → (end : ℕ) → ((i : ℕ) → k + i + 1 < end → get_or (said fresh (drop k (put d₀ h))) i Dry ≡ Gained → ⊥)
       → (b p : ℕ) → p < b → p < end → T p → ⊥
-  early_clean spaced end quiet zero p lt within t = absurd (let z : ⊥ = omega arith in z)
+  early_clean spaced end quiet zero p lt within t = absurd (omega arith)
   early_clean spaced end quiet (suc b) p lt within (turned, inside) =
       let g = spaced.in_sync p turned inside in
       let i = g.0 in
@@ -124,7 +123,7 @@ module _ (d₀ : ℕ) (small₀ : d₀ < 2) (h : History) (q₀ : List ℕ) (d�
         (λ i w gained.
         let e : get_or (said fresh (drop k (put d₀ h))) i Dry ≡ More =
         ap (λ b. get_or (said fresh (drop k b)) i Dry) put_split ∙ ap (λ r. get_or r i Dry) sh.1.1 ∙ more_at sh.0 i _ (omega (arith, sh.1.0)) in
-        let z : ◌≡◌ {A = ℕ} 0 1 = cc in omega arith)
+        cc)
         (suc p) p (omega arith) lt t
 
     -- while the third has not ended, nothing but more is answered
@@ -267,13 +266,13 @@ module _ (d₀ : ℕ) (small₀ : d₀ < 2) (h : History) (q₀ : List ℕ) (d�
           let l = synced 0 0 0 false 0 in
           let R : ℕ → Type 0 = λ q. (y : Pair) → Nth ps q y → dword y.judged_as ≡ y.sent_as in
           let right : (jj : ℕ) → Nth (replies l ps) jj a → R n = λ jj nj.
-          vouched_right R ps l in_track.track d₁_small (omega arith) (λ e m lo hi. absurd (let z : ⊥ = omega arith in z))
+          vouched_right R ps l in_track.track d₁_small (omega arith) (λ e m lo hi. absurd (omega arith))
           (λ t y nt same y' nt'. let e : y ≡ y' = nth_same nt (subst (λ o. Nth ps o y') (let z : 0 + t ≡ t = omega arith in z) nt') in subst (λ v. dword v.judged_as ≡ v.sent_as) e same)
           jj n a nj vouch in
           elim (sync_answer i (Good g) at_i) [
             | inl no-dword-here ↦ absurd (elim no-dword-here [
-              | inl e ↦ let z : ◌≡◌ {A = ℕ} 0 1 = cc in omega arith
-              | inr e ↦ let z : ◌≡◌ {A = ℕ} 0 1 = cc in omega arith
+              | inl e ↦ cc
+              | inr e ↦ cc
             ])
             | inr at ↦
                 let got = reply_good ps l at.1.1 in
@@ -376,13 +375,13 @@ module _ (d₀ : ℕ) (small₀ : d₀ < 2) (h : History) (q₀ : List ℕ) (d�
   pub vouched_is_sent : Spaced d₀ h → VouchedIsSent h
   vouched_is_sent spaced i j g a at_i at_j vouch = elim (hunts? (sent h) k) [
     | inr lacks ↦ elim (never_answers spaced lacks i (Good g) at_i) [
-      | inl e ↦ absurd (let z : ◌≡◌ {A = ℕ} 0 1 = cc in let y : ⊥ = omega arith in y)
-      | inr e ↦ absurd (let z : ◌≡◌ {A = ℕ} 0 1 = cc in let y : ⊥ = omega arith in y)
+      | inl e ↦ absurd (cc)
+      | inr e ↦ absurd (cc)
     ]
     | inl found ↦ elim (cases_lt (kept_end h) (40 * length found.front)) [
       | inl near ↦
           let e = near_answers spaced found.front found.rest found.is found.holds near i (Good g) at_i in
-          absurd (let z : ◌≡◌ {A = ℕ} 0 1 = cc in let y : ⊥ = omega arith in y)
+          absurd (cc)
       | inr far ↦ vouched_far spaced found.front found.rest found.is found.holds far i j g a at_i at_j vouch
     ]
   ]

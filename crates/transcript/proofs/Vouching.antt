@@ -4,13 +4,12 @@ use Rattle.std.specs.Option.{option_map, option_or}
 use Rattle.std.proofs.lemmas.Bool.{cases_lt, cases_Bool, and_parts, eqb-false, not-true, cond-true, cond-false}
 use Rattle.link.specs.declared.dword.Dword.{Dword}
 use Rattle.link.specs.declared.state.Ledger.{Ledger}
-use Rattle.link.specs.Hearing.{Closing}
+use Rattle.link.specs.Hearing.{Closing, settlement, settled_by, stretch, still_pending, in_sync, handed_out, reported}
 use Rattle.link.specs.declared.heard.Heard.{Heard}
 use Rattle.link.specs.declared.reading.Readings.{Readings}
 use Rattle.link.specs.Readings.{is_refused, is_good, dword, own_verdict, verdict}
 use Rattle.link.specs.declared.reading.Verdict.{Verdict}
 use Rattle.link.specs.declared.reading.Verdict.TheVariants.{Vouches, Doubts}
-use Rattle.link.specs.Hearing.{settlement, settled_by, stretch, still_pending, in_sync, handed_out, reported}
 use Rattle.transcript.proofs.OneHearing.{either_way}
 use Rattle.transcript.specs.Laws.{VouchedBy, vouched_in}
 use Rattle.transcript.proofs.Track.{Cell, Steps, Status, Goods, AllRead, verdict_of, none_vouches, good_run, Nth, here, there}
@@ -127,6 +126,6 @@ module _ (R : ℕ → Type 0) where
             later i n a (subst on-from (closes_good j l good) nth) vouch
         | inr bad ↦ elim (cases_Bool (eqb l.debt 3)) [
           | inl fourth ↦ let none = subst on-from (closes_bad j l true bad fourth) nth in elim none [ ]
-          | inr fewer ↦ vouched_right xs (reported j l false).ledger track h'' (omega arith) (λ right m lo hi. absurd (let z : ⊥ = omega arith in z)) later i n a (subst on-from (closes_bad j l false bad fewer) nth) vouch
+          | inr fewer ↦ vouched_right xs (reported j l false).ledger track h'' (omega arith) (λ right m lo hi. absurd (omega arith)) later i n a (subst on-from (closes_bad j l false bad fewer) nth) vouch
         ]
       ]
