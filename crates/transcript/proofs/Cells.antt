@@ -19,7 +19,7 @@ use Rattle.link.specs.Readings.{is_refused, is_good, mask, verdict}
 use Rattle.transcript.specs.Laws.{kind_at, byte_at}
 use Rattle.transcript.proofs.HandedOut.{alike_take}
 use Rattle.transcript.proofs.Track.{Cell, Nth, here, there}
-use Rattle.transcript.proofs.Vouching.{Pair, replies, closes_good, closes_bad, good_parts}
+use Rattle.transcript.proofs.Vouching.{Pair, replies, closes_bad, ending, ends_good, ends_lost, ends_bad, good_parts}
 use Rattle.transcript.proofs.Spacing.{Sym, Differ, char, code_bits, cells_of, same?, same_of, same_true, e_end}
 use Rattle.transcript.proofs.Dwords.{syms, drop4, drop4_is, length_drop4, pair, pairs, all_cells, code_dword}
 use Rattle.transcript.proofs.DwordAnswers.{nth_cons}
@@ -189,37 +189,35 @@ reported_here y₀ y l lost same is =
 
 pub reply_bad : (ps : List Pair) (l : Ledger) {j : ℕ} {a : Heard} {y : Pair} → Nth (replies l ps) j a → Nth ps j y → is_good y.judged_as ≡ false
     → Reported a (mask y.judged_as)
-reply_bad [] l nth ny bad = elim nth [ ]
-reply_bad (y₀ ∷ ps) l {j} {a} {y} nth ny bad =
+reply_bad [] l nth ny refused = elim nth [ ]
+reply_bad (y₀ ∷ ps) l {j} {a} {y} nth ny refused =
     let g = y₀.judged_as in
     let on : Closing → Type 0 = λ c. Nth (c.heard ∷ cond c.ledger.synced (replies c.ledger ps) []) j a in
     elim (nth_cons ny) [
       | inl here-y ↦
           let same = here-y.1 in
           let z = here-y.0 in
-          let bad₀ : is_good g ≡ false = subst (λ v. is_good v.judged_as ≡ false) same bad in
+          let bad₀ : is_good g ≡ false = subst (λ v. is_good v.judged_as ≡ false) same refused in
           elim (nth_cons (subst on (closes_bad g l (eqb l.debt 3) bad₀ refl) nth)) [
             | inl q ↦ reported_here y₀ y l (eqb l.debt 3) same q.1
-            | inr q ↦ absurd (let w : ⊥ = omega (arith, q.1.0) in w)
+            | inr q ↦ absurd (omega (arith, q.1.0))
           ]
       | inr later-y ↦
           let n = later-y.0 in
           let z = later-y.1.0 in
           let place : (i : ℕ) → j ≡ suc i → Nth ps i y = λ i e. subst (λ k. Nth ps k y) (let w : n ≡ i = omega arith in w) later-y.1.1 in
-          elim (cases_Bool (is_good g)) [
-            | inl good ↦ elim (nth_cons (subst on (closes_good g l good) nth)) [
-              | inl q ↦ absurd (let w : ⊥ = omega (arith, q.0) in w)
-              | inr q ↦ reply_bad ps (handed_out g l).ledger q.1.1 (place q.0 q.1.0) bad
+          elim (ending g l) [
+            | ends_good g' e ↦ elim (nth_cons (subst on e nth)) [
+              | inl q ↦ absurd (omega (arith, q.0))
+              | inr q ↦ reply_bad ps (handed_out g l).ledger q.1.1 (place q.0 q.1.0) refused
             ]
-            | inr b ↦ elim (cases_Bool (eqb l.debt 3)) [
-              | inl f ↦ elim (nth_cons (subst on (closes_bad g l true b f) nth)) [
-                | inl q ↦ absurd (let w : ⊥ = omega (arith, q.0) in w)
-                | inr q ↦ elim q.1.1 [ ]
-              ]
-              | inr f ↦ elim (nth_cons (subst on (closes_bad g l false b f) nth)) [
-                | inl q ↦ absurd (let w : ⊥ = omega (arith, q.0) in w)
-                | inr q ↦ reply_bad ps (reported g l false).ledger q.1.1 (place q.0 q.1.0) bad
-              ]
+            | ends_lost e ↦ elim (nth_cons (subst on e nth)) [
+              | inl q ↦ absurd (omega (arith, q.0))
+              | inr q ↦ elim q.1.1 [ ]
+            ]
+            | ends_bad e ↦ elim (nth_cons (subst on e nth)) [
+              | inl q ↦ absurd (omega (arith, q.0))
+              | inr q ↦ reply_bad ps (reported g l false).ledger q.1.1 (place q.0 q.1.0) refused
             ]
           ]
     ]

@@ -158,7 +158,7 @@ handed_hunting (w ∷ ws) m k d e (v, vs) h =
           ap (λ xs. handed (take m (said (hunting e (early 0)) xs))) (drop_dword d k w (stream (disparity_after d w) ws) past)
           ∙ later ∙ sym (rw (a, b) refl)
       | inl inside ↦ elim (cases_lt 0 k) [
-        | inl cut ↦ ap (λ xs. handed (take m xs)) (hunt_over e (early 0) d k w ws v vs h inside (λ z. absurd (let n : ⊥ = omega arith in n)))
+        | inl cut ↦ ap (λ xs. handed (take m xs)) (hunt_over e (early 0) d k w ws v vs h inside (λ z. absurd (omega arith)))
             ∙ handed_skip (40 - k) m _ ∙ next_dword ∙ partly w ws m k inside cut
         | inr whole ↦ let z : k ≡ 0 = omega arith in rw z (wholly w ws m d e v vs h (handed_hunting ws (m - 40) 0 (disparity_after d w) e vs h'))
       ]

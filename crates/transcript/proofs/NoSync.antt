@@ -69,8 +69,8 @@ hunts? (w ∷ ws) k = elim (cases_lt k 40) [
     ]
     | inl is-k ↦ elim (cases_lt 0 k) [
       | inl cut ↦ elim (hunts? ws 0) [
-        | inl s ↦ inl (record { front = w ∷ s.front; rest = s.rest; is = ap (λ r. w ∷ r) s.is; holds = waits lt (λ z. absurd (let y : ⊥ = omega arith in y)) s.holds })
-        | inr f ↦ inr (l_waits lt (λ z. absurd (let y : ⊥ = omega arith in y)) f)
+        | inl s ↦ inl (record { front = w ∷ s.front; rest = s.rest; is = ap (λ r. w ∷ r) s.is; holds = waits lt (λ z. absurd (omega arith)) s.holds })
+        | inr f ↦ inr (l_waits lt (λ z. absurd (omega arith)) f)
       ]
       | inr whole ↦ let z : 0 ≡ k = omega arith in elim (gains? ws 1) [
         | inl s ↦ inl (subst (λ n. Split (Hunts n) (w ∷ ws)) z (gains_front w ws is-k s))
