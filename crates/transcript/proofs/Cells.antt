@@ -2,7 +2,7 @@
 use Rattle.std.proofs.Common.{◌≡◌, ℕ, zero, suc, ◌+◌, ◌*◌, ◌/◌, ◌%◌, ◌^◌, ◌<◌, ◌≤◌, min, Bool, true, false, cond, not, eqb, List, [], ◌∷◌, ◌++◌, length, get_or, take, drop, sym, refl, ap, ◌∙◌, subst, inl, inr, arith, length-drop, length-take, get_or-drop, get_or-take}
 use lib.ListN.{get_or-append}
 use Rattle.std.proofs.lemmas.List.{take_all}
-use Rattle.std.proofs.lemmas.Bool.{cases_Bool, cases_eq, both_ways}
+use Rattle.std.proofs.lemmas.Bool.{cases_Bool, cases_eq}
 use Rattle.link.specs.declared.dword.Dword.{Dword}
 use Rattle.link.specs.declared.state.Ledger.{Ledger}
 use Rattle.link.specs.Hearing.{Closing, settlement, handed_out, reported}
@@ -15,11 +15,11 @@ use Rattle.link.specs.Sending.{stream, dword_bits, disparity_after}
 use Rattle.link.specs.declared.reading.Readings.{Readings}
 use Rattle.link.specs.declared.reading.Reading.{Reading}
 use Rattle.link.specs.declared.reading.Reading.TheVariants.{Refused}
-use Rattle.link.specs.Readings.{is_refused, is_good, mask, verdict}
+use Rattle.link.specs.Readings.{is_good, mask, verdict}
 use Rattle.transcript.specs.Laws.{kind_at, byte_at}
 use Rattle.transcript.proofs.HandedOut.{alike_take}
 use Rattle.transcript.proofs.Track.{Cell, Nth, here, there}
-use Rattle.transcript.proofs.Vouching.{Pair, replies, closes_bad, ending, ends_good, ends_lost, ends_bad, good_parts}
+use Rattle.transcript.proofs.Vouching.{Pair, replies, closes_bad, ending, ends_good, ends_lost, ends_bad}
 use Rattle.transcript.proofs.Spacing.{Sym, Differ, char, code_bits, cells_of, same?, same_of, same_true, e_end}
 use Rattle.transcript.proofs.Dwords.{syms, drop4, drop4_is, length_drop4, pair, pairs, all_cells, code_dword}
 use Rattle.transcript.proofs.DwordAnswers.{nth_cons}
@@ -131,47 +131,20 @@ cell_at (w ∷ ws) d e x (suc j) r lt lr long =
       judged_is = ih.judged_is;
     }
 
-times : (b : Bool) (w : ℕ) → cond b w 0 ≡ w * cond b 1 0
-times true w = omega arith
-times false w = omega arith
-
-one_or_none : (b : Bool) → cond {A = ℕ} b 1 0 < 2
-one_or_none true = omega arith
-one_or_none false = omega arith
-
 -- a refused place is in the mask
 pub mask_bit : (j : Readings) (r : ℕ) → r < 4 → reading_at r j ≡ Refused → mask j / (2 ^ r) % 2 ≡ 1
-mask_bit j r lt is =
-    let b₀ = is_refused j.first in let b₁ = is_refused j.second in let b₂ = is_refused j.third in let b₃ = is_refused j.fourth in
-    let n₀ : ℕ = cond b₀ 1 0 in let n₁ : ℕ = cond b₁ 1 0 in let n₂ : ℕ = cond b₂ 1 0 in let n₃ : ℕ = cond b₃ 1 0 in
-    let e : mask j ≡ ((n₀ + 2 * n₁) + 4 * n₂) + 8 * n₃ = rw (times b₁ 2, times b₂ 4, times b₃ 8) refl in
-    ap (λ m. m / (2 ^ r) % 2) e ∙ at r lt n₀ n₁ n₂ n₃ (one_or_none b₀) (one_or_none b₁) (one_or_none b₂) (one_or_none b₃)
-    (λ z. ap (λ b. cond {A = ℕ} b 1 0) (ap is_refused (sym (ap (λ i. reading_at i j) z) ∙ is)))
-    (λ z. ap (λ b. cond {A = ℕ} b 1 0) (ap is_refused (sym (ap (λ i. reading_at i j) z) ∙ is)))
-    (λ z. ap (λ b. cond {A = ℕ} b 1 0) (ap is_refused (sym (ap (λ i. reading_at i j) z) ∙ is)))
-    (λ z. ap (λ b. cond {A = ℕ} b 1 0) (ap is_refused (sym (ap (λ i. reading_at i j) z) ∙ is)))
-  where
-    at : (r : ℕ) → r < 4 → (n₀ n₁ n₂ n₃ : ℕ) → n₀ < 2 → n₁ < 2 → n₂ < 2 → n₃ < 2 → (r ≡ 0 → n₀ ≡ 1) → (r ≡ 1 → n₁ ≡ 1) → (r ≡ 2 → n₂ ≡ 1) → (r ≡ 3 → n₃ ≡ 1) →
-        (((n₀ + 2 * n₁) + 4 * n₂) + 8 * n₃) / (2 ^ r) % 2 ≡ 1
-    at zero lt n₀ n₁ n₂ n₃ h₀ h₁ h₂ h₃ f₀ f₁ f₂ f₃ = let o = f₀ refl in omega arith
-    at (suc zero) lt n₀ n₁ n₂ n₃ h₀ h₁ h₂ h₃ f₀ f₁ f₂ f₃ = let o = f₁ refl in omega arith
-    at (suc (suc zero)) lt n₀ n₁ n₂ n₃ h₀ h₁ h₂ h₃ f₀ f₁ f₂ f₃ = let o = f₂ refl in omega arith
-    at (suc (suc (suc zero))) lt n₀ n₁ n₂ n₃ h₀ h₁ h₂ h₃ f₀ f₁ f₂ f₃ = let o = f₃ refl in omega arith
-    at (suc (suc (suc (suc r)))) lt n₀ n₁ n₂ n₃ h₀ h₁ h₂ h₃ f₀ f₁ f₂ f₃ = absurd (omega arith)
+mask_bit j zero lt is = grind arith
+mask_bit j (suc zero) lt is = grind arith
+mask_bit j (suc (suc zero)) lt is = grind arith
+mask_bit j (suc (suc (suc zero))) lt is = grind arith
+mask_bit j (suc (suc (suc (suc r)))) lt is = absurd (omega arith)
 
 -- and makes the dword bad
 pub refused_bad : (j : Readings) (r : ℕ) → reading_at r j ≡ Refused → is_good j ≡ false
-refused_bad j r is = elim (cases_Bool (is_good j)) [
-  | inr b ↦ b
-  | inl g ↦ let p = good_parts j g in absurd (both_ways (is_refused (reading_at r j)) (at r p.0 p.1 p.2 p.3) (ap is_refused is))
-]
-  where
-    at : (r : ℕ) → is_refused j.first ≡ false → is_refused j.second ≡ false → is_refused j.third ≡ false → is_refused j.fourth ≡ false
-        → is_refused (reading_at r j) ≡ false
-    at zero a b c d = a
-    at (suc zero) a b c d = b
-    at (suc (suc zero)) a b c d = c
-    at (suc (suc (suc r))) a b c d = d
+refused_bad j zero is = grind arith
+refused_bad j (suc zero) is = grind arith
+refused_bad j (suc (suc zero)) is = grind arith
+refused_bad j (suc (suc (suc r))) is = grind arith
 
 -- a bad dword is reported with its mask
 pub record Reported (a : Heard) (m : ℕ) : Type 0 where
