@@ -1,19 +1,19 @@
 -- One hearing: what a receiver makes of a bit.
-use Rattle.std.specs.Prelude.{ℕ, ◌+◌, ◌-◌, ◌*◌, ◌%◌, min, Bool, true, false, cond, not, ◌&&◌, ◌==◌, nat_lt}
+use Rattle.std.specs.Prelude.{ℕ, ◌+◌, ◌-◌, ◌*◌, ◌%◌, min, Bool, true, false, cond, not, ◌&&◌, Some, None, Option, ◌==◌, nat_lt}
+use Rattle.std.specs.Option.{option_map}
 use Rattle.code.specs.Characters.{after}
 use Rattle.link.specs.declared.reading.Reading.TheVariants.{Refused}
 use Rattle.link.specs.declared.reading.Readings.{Readings}
 use Rattle.link.specs.declared.reading.Verdict.{Verdict}
-use Rattle.link.specs.declared.reading.Verdict.TheVariants.{Silent, Vouches, Doubts}
+use Rattle.link.specs.declared.reading.Verdict.TheVariants.{Vouches, Doubts}
 use Rattle.link.specs.declared.heard.Span.{Span}
 use Rattle.link.specs.declared.heard.Settlement.{Settlement}
-use Rattle.link.specs.declared.heard.Settlement.TheVariants.{Unsettled, Vouched, Doubtful}
+use Rattle.link.specs.declared.heard.Settlement.TheVariants.{Vouched, Doubtful}
+use Rattle.link.specs.declared.heard.Heard.{Heard}
 use Rattle.link.specs.declared.heard.Heard.TheVariants.{More, Slip, Gained, Good, Bad}
 use Rattle.link.specs.declared.state.Framing.{Framing}
 use Rattle.link.specs.declared.state.Ledger.{Ledger}
 use Rattle.link.specs.declared.state.State.{State}
-use Rattle.link.specs.declared.state.Hearing.{Hearing}
-use Rattle.link.specs.declared.state.Closing.{Closing}
 use Rattle.link.specs.Readings.{reading, kind_of, byte_of, mask, is_good, dword, verdict}
 
 -- No bit and no character yet, of a comma or of a dword.
@@ -28,25 +28,34 @@ fresh = record {
   ledger = record { synced = false; count = 0; number = 0; debt = 0; single = false; pending = 0 };
 }
 
+-- The state after a bit, and the answer.
+pub record Hearing : Type 0 where
+  pub state : State
+  pub heard : Heard
+
 -- ---- The end of a dword
+
+-- Whether hunting begins again, the ledger after the dword, and the answer.
+pub record Closing : Type 0 where
+  pub hunting : Bool
+  pub ledger : Ledger
+  pub heard : Heard
 
 -- The open stretch: the latest dwords, as many as are pending.
 abbrev pub stretch : Ledger → Span
 stretch l = record { first = l.number - l.pending; last = l.number - 1 }
 
 abbrev pub settled_by : Verdict → Span → Settlement
-settled_by Silent span = Unsettled
 settled_by Vouches span = Vouched span
 settled_by Doubts span = Doubtful span
 
 -- An empty stretch gives none.
-abbrev pub settlement : Verdict → Ledger → Settlement
-settlement v l = cond (l.pending == 0) Unsettled (settled_by v (stretch l))
+abbrev pub settlement : Option Verdict → Ledger → Option Settlement
+settlement v l = cond (l.pending == 0) None (option_map (λ w. settled_by w (stretch l)) v)
 
-abbrev pub still_pending : Verdict → ℕ → ℕ
-still_pending Silent pending = pending
-still_pending Vouches pending = 0
-still_pending Doubts pending = 0
+abbrev pub still_pending : Option Verdict → ℕ → ℕ
+still_pending None pending = pending
+still_pending (Some v) pending = 0
 
 abbrev pub is_k28_5 : Readings → Bool
 is_k28_5 r = kind_of r.first == 1 && byte_of r.first == 0xBC
@@ -177,6 +186,11 @@ after_dword disparity c = record {
   state = record { framing = empty_frame c.hunting; disparity = disparity; ledger = c.ledger };
   heard = c.heard;
 }
+
+-- The last bit of a dword is heard as its end, and any other tells nothing.
+abbrev pub ended : Option Readings → State → Hearing
+ended None s = record { state = s; heard = More }
+ended (Some readings) s = after_dword s.disparity (closing readings s.ledger)
 
 unfoldable pub completed : State → ℕ → Hearing
 completed s character =

@@ -1,5 +1,6 @@
 -- How a character is read, and what the four characters of a dword make.
 use Rattle.std.specs.Prelude.{ℕ, ◌+◌, Bool, true, false, cond, not, ◌&&◌, Some, None, Option, ◌==◌, nat_lt}
+use Rattle.std.specs.Option.{option_or}
 use Rattle.code.specs.declared.character.Code.{Code}
 use Rattle.code.specs.Kinds.{kind_number, code_with}
 use Rattle.code.specs.Characters.{decoded, unlike}
@@ -8,7 +9,7 @@ use Rattle.link.specs.declared.reading.Reading.{Reading}
 use Rattle.link.specs.declared.reading.Reading.TheVariants.{Refused, Like, Unlike}
 use Rattle.link.specs.declared.reading.Readings.{Readings}
 use Rattle.link.specs.declared.reading.Verdict.{Verdict}
-use Rattle.link.specs.declared.reading.Verdict.TheVariants.{Silent, Vouches, Doubts}
+use Rattle.link.specs.declared.reading.Verdict.TheVariants.{Vouches, Doubts}
 
 -- A code at a place of a dword: a special one is refused at places 1 to 3.
 abbrev pub placed : ℕ → Code → Reading
@@ -54,11 +55,12 @@ is_good r = not (is_refused r.first) && not (is_refused r.second) && not (is_ref
 abbrev pub dword : Readings → Dword
 dword r = record { kind = kind_of r.first; b0 = byte_of r.first; b1 = byte_of r.second; b2 = byte_of r.third; b3 = byte_of r.fourth }
 
--- What the first character that is refused or has unlike columns says, if there is one.
-abbrev pub or_then : Reading → Verdict → Verdict
-or_then Refused later = Doubts
-or_then (Like code) later = later
-or_then (Unlike code) later = Vouches
+-- What a character says: one that is refused doubts, and one with unlike columns vouches.
+abbrev pub own_verdict : Reading → Option Verdict
+own_verdict Refused = Some Doubts
+own_verdict (Like code) = None
+own_verdict (Unlike code) = Some Vouches
 
-abbrev pub verdict : Readings → Verdict
-verdict r = or_then r.first (or_then r.second (or_then r.third (or_then r.fourth Silent)))
+-- What the first character that is refused or has unlike columns says, if there is one.
+abbrev pub verdict : Readings → Option Verdict
+verdict r = option_or (own_verdict r.first) (option_or (own_verdict r.second) (option_or (own_verdict r.third) (own_verdict r.fourth)))

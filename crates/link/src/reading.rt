@@ -1,12 +1,12 @@
 // Characters as a receiver reads them, and the four of a dword.
-ghost use Rattle.std.specs.Prelude.{◌≡◌, ◌≤◌};
-ghost use Rattle.link.specs.Readings.{placed, is_refused, code_of, weight, mask, is_good, dword, or_then, verdict};
+ghost use Rattle.std.specs.Prelude.{◌≡◌, ◌≤◌, if◌then◌else◌};
+ghost use Rattle.link.specs.Readings.{placed, is_refused, code_of, weight, mask, is_good, dword, own_verdict, verdict};
 
 use crate::dword::Dword;
 use code::{Code, Kind};
 
 // What a character was read as: refused, or a code, by whether its two columns are alike.
-#[derive(Clone, Copy)]
+#[derive(Clone, Copy, PartialEq, Eq, Debug)]
 pub enum Reading {
     Refused,
     Like(Code),
@@ -14,7 +14,8 @@ pub enum Reading {
 }
 
 // The readings of a dword's four characters.
-#[derive(Clone, Copy)]
+// Kept: four named fields, as what is said of a dword's places has a field for each.
+#[derive(Clone, Copy, PartialEq, Eq, Debug)]
 pub struct Readings {
     pub first: Reading,
     pub second: Reading,
@@ -22,10 +23,9 @@ pub struct Readings {
     pub fourth: Reading,
 }
 
-// What a dword's first character that is refused or has unlike columns says of the open stretch.
-#[derive(Clone, Copy)]
+// What a character that is refused or has unlike columns says of the open stretch.
+#[derive(Clone, Copy, PartialEq, Eq, Debug)]
 pub enum Verdict {
-    Silent,
     Vouches,
     Doubts,
 }
@@ -48,24 +48,16 @@ impl Reading {
     fn is_refused(self) -> bool
         ensures { result ≡ is_refused self }
     {
-        match self {
-            Reading::Refused => true,
-            Reading::Like(_) => false,
-            Reading::Unlike(_) => false,
-        }
+        matches!(self, Reading::Refused)
     }
 
     // The code, of which a refused character has none.
-    fn code(self) -> Code
-        ensures { result ≡ code_of self }
+    fn code(self) -> Option<Code>
+        ensures { result ≡ (if is_refused self then None else Some (code_of self)) }
     {
         match self {
-            Reading::Refused => Code {
-                kind: Kind::Data,
-                byte: 0,
-            },
-            Reading::Like(code) => code,
-            Reading::Unlike(code) => code,
+            Reading::Refused => None,
+            Reading::Like(code) | Reading::Unlike(code) => Some(code),
         }
     }
 
@@ -76,14 +68,14 @@ impl Reading {
         if self.is_refused() { number } else { 0 }
     }
 
-    // What the character says, or what later ones say where it is silent.
-    fn or_then(self, later: Verdict) -> Verdict
-        ensures { result ≡ or_then self later }
+    // What the character says of the open stretch, if anything.
+    fn verdict(self) -> Option<Verdict>
+        ensures { result ≡ own_verdict self }
     {
         match self {
-            Reading::Refused => Verdict::Doubts,
-            Reading::Like(_) => later,
-            Reading::Unlike(_) => Verdict::Vouches,
+            Reading::Refused => Some(Verdict::Doubts),
+            Reading::Like(_) => None,
+            Reading::Unlike(_) => Some(Verdict::Vouches),
         }
     }
 }
@@ -96,36 +88,28 @@ impl Readings {
         self.first.weight(1) + self.second.weight(2) + self.third.weight(4) + self.fourth.weight(8)
     }
 
-    // Whether no character is refused.
-    pub fn is_good(self) -> bool
-        ensures { result ≡ is_good self }
+    // The dword that four good characters make; with a refused one there is none.
+    pub fn dword(self) -> Option<Dword>
+        ensures { result ≡ (if is_good self then Some (dword self) else None) }
     {
-        !self.first.is_refused()
-            && !self.second.is_refused()
-            && !self.third.is_refused()
-            && !self.fourth.is_refused()
-    }
-
-    // The dword that four good characters make.
-    pub fn dword(self) -> Dword
-        ensures { result ≡ dword self }
-    {
-        let first = self.first.code();
-        Dword {
+        let first = self.first.code()?;
+        Some(Dword {
             kind: first.kind.into(),
             b0: first.byte,
-            b1: self.second.code().byte,
-            b2: self.third.code().byte,
-            b3: self.fourth.code().byte,
-        }
+            b1: self.second.code()?.byte,
+            b2: self.third.code()?.byte,
+            b3: self.fourth.code()?.byte,
+        })
     }
 
-    pub fn verdict(self) -> Verdict
+    // What the first character that says something says.
+    pub fn verdict(self) -> Option<Verdict>
         ensures { result ≡ verdict self }
     {
-        self.first.or_then(
-            self.second
-                .or_then(self.third.or_then(self.fourth.or_then(Verdict::Silent))),
-        )
+        self.first
+            .verdict()
+            .or(self.second.verdict())
+            .or(self.third.verdict())
+            .or(self.fourth.verdict())
     }
 }

@@ -1,14 +1,15 @@
 -- Characters heard in sync, at the sender's disparity or at the other.
 use Rattle.std.proofs.Common.{◌≡◌, ℕ, zero, suc, ◌-◌, ◌<◌, Bool, true, false, cond, ◌&&◌, eqb, ltb, ◌⊎◌, List, [], ◌∷◌, Some, None, Option, sym, refl, ap, ◌∙◌, inl, inr, arith}
+use Rattle.std.specs.Option.{option_or}
 use Rattle.std.proofs.lemmas.Bool.{cases_lt, cases_Bool, both_ways, lt-ltb}
 use Rattle.transcript.proofs.CodeFacts.{ValidCode, like_keeps, like_same, turned_leaves, unlike-refused, unlike_sets}
 use Rattle.code.specs.Characters.{encoded, decoded, after, unlike}
 use Rattle.transcript.proofs.Bits.{bits, number, turn}
 use Rattle.link.specs.declared.reading.Reading.{Reading}
 use Rattle.link.specs.declared.reading.Reading.TheVariants.{Refused, Like, Unlike}
-use Rattle.link.specs.Readings.{reading, read_as, is_refused, or_then}
+use Rattle.link.specs.Readings.{reading, read_as, is_refused, own_verdict}
 use Rattle.link.specs.declared.reading.Verdict.{Verdict}
-use Rattle.link.specs.declared.reading.Verdict.TheVariants.{Silent, Vouches}
+use Rattle.link.specs.declared.reading.Verdict.TheVariants.{Vouches}
 use Rattle.transcript.proofs.CleanDwords.{Reads, reads_column, column}
 use Rattle.code.specs.declared.character.Code.{Code}
 use Rattle.code.specs.Kinds.{kind_number, code_with}
@@ -119,9 +120,9 @@ pub data Steps : (d e : ℕ) (p : Bool) (d'' e'' : ℕ) (p'' : Bool) → List Ce
   more : {t : Bool} {d e kind byte d' e' d'' e'' : ℕ} {p p' p'' : Bool} {v : Reading} {cells : List Cell} → d < 2 → d' < 2 → Step t d e p kind byte v d' e' p' →
       Steps d' e' p' d'' e'' p'' cells → Steps d e p d'' e'' p'' (record { struck_bit = t; kind = kind; byte = byte; judged_as = v } ∷ cells)
 
-abbrev pub verdict_of : List Cell → Verdict
-verdict_of [] = Silent
-verdict_of (c ∷ cs) = or_then c.judged_as (verdict_of cs)
+abbrev pub verdict_of : List Cell → Option Verdict
+verdict_of [] = None
+verdict_of (c ∷ cs) = option_or (own_verdict c.judged_as) (verdict_of cs)
 
 abbrev pub Goods : List Cell → Type 0
 Goods [] = Unit {0}
@@ -135,11 +136,11 @@ apart : (d e : ℕ) → d < 2 → e ≡ d → e ≡ 1 - d → ⊥
 apart d e h a b = omega arith
 
 -- at the other disparity no character vouches before one is refused
-pub none_vouches : {d e d'' e'' : ℕ} {p p'' : Bool} {cells : List Cell} → Steps d e p d'' e'' p'' cells → e ≡ 1 - d → verdict_of cells ≡ Vouches → ⊥
-none_vouches done wrong says = let z : ◌≡◌ {A = ℕ} 0 1 = cc in omega arith
+pub none_vouches : {d e d'' e'' : ℕ} {p p'' : Bool} {cells : List Cell} → Steps d e p d'' e'' p'' cells → e ≡ 1 - d → verdict_of cells ≡ Some Vouches → ⊥
+none_vouches done wrong says = cc
 none_vouches (more h h' (kept t right reads e) rest) wrong says = apart _ _ h right wrong
 none_vouches (more h h' (blind t w li v e p) rest) wrong says = none_vouches rest e (rw v at says)
-none_vouches (more h h' (caught t w un v e) rest) wrong says = let s = rw v at says in let z : ◌≡◌ {A = ℕ} 0 1 = cc in omega arith
+none_vouches (more h h' (caught t w un v e) rest) wrong says = let s = rw v at says in cc
 none_vouches (more h h' (struck t right v s p) rest) wrong says = apart _ _ h right wrong
 none_vouches (more h h' (slipped t right v e p) rest) wrong says = apart _ _ h right wrong
 
@@ -186,7 +187,7 @@ own_or_later (caught t w un v e) rest is n tells first = absurd (both_ways _ t i
 pub refused_at : {d e d'' e'' : ℕ} {p p'' : Bool} {cells : List Cell} {i u : ℕ} {b c : Cell} → Steps d e p d'' e'' p'' cells → Nth cells i b → b.struck_bit ≡ true →
     i < u → Nth cells u c → Telling c → ((v : ℕ) (x : Cell) → i < v → v < u → Nth cells v x → Telling x → ⊥) → (b.judged_as ≡ Refused) ⊎ (c.judged_as ≡ Refused)
 refused_at done m is lt n tells first = elim m [ ]
-refused_at (more h h' s rest) here is lt here tells first = absurd (let z : ⊥ = omega arith in z)
-refused_at (more h h' s rest) (there m) is lt here tells first = absurd (let z : ⊥ = omega arith in z)
+refused_at (more h h' s rest) here is lt here tells first = absurd (omega arith)
+refused_at (more h h' s rest) (there m) is lt here tells first = absurd (omega arith)
 refused_at (more h h' s rest) here is lt (there n) tells first = own_or_later s rest is n tells (λ i x a nx. first (suc i) x (omega arith) (omega arith) (there nx))
 refused_at (more h h' s rest) (there m) is lt (there n) tells first = refused_at rest m is (omega arith) n tells (λ i x a b nx. first (suc i) x (omega arith) (omega arith) (there nx))
