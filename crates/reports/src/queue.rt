@@ -4,6 +4,8 @@ ghost use Rattle.code.specs.Refusals.{numbered};
 ghost use Rattle.line.specs.Cyclic.{wrap};
 ghost use Rattle.reports.specs.Queues.{memory_of, start, count_of, elements, room_of, queue_refusal, pushing, Appended, Pushed, Popped};
 
+use code::refusal::Refusal;
+
 // The elements that wait lie in the memory from `front` on, past its end from the start again. Whatever stands in
 // `front` and `count` means a queue: they are read modulo the places and up to the places.
 #[derive(Drop)]
@@ -19,11 +21,10 @@ pub enum QueueRefusal<T> {
     Full(T),
 }
 
-impl<T: Copy> QueueRefusal<T> {
-    // The number that the refusal goes by.
-    pub fn number(self) -> u8
-        ensures { result ≡ (queue_refusal self).number }
-    {
+impl<T> Refusal for QueueRefusal<T> {
+    ghost number_of = { λ r. (queue_refusal r).number };
+
+    fn number(&self) -> u8 {
         match self {
             QueueRefusal::Full(_) => 21,
         }
