@@ -9,13 +9,13 @@ use Rattle.reports.specs.declared.collecting.Stop.{Stop}
 use Rattle.reports.specs.declared.collecting.Stop.TheVariants as stop
 use Rattle.reports.specs.Queues.{elements, memory_of, room_of, Kept}
 use Rattle.reports.specs.Collecting.{Collection, Collects, collected}
-use Rattle.reports.proofs.QueueLaws.{length_shown}
+use Rattle.reports.proofs.QueueLaws.{length_elements}
 use Rattle.listening.specs.Listening.{report_lines, dword_lines, told, taken}
 use Rattle.listening.proofs.Tellings.{told-after, told_none, Ends, ends}
 
 -- an empty queue has room for all its places
 room_empty : {T : Type 0} (q : Queue T) (n : ℕ) → elements q ≡ [] → length (memory_of q) ≡ n → room_of q ≡ n
-room_empty q n e m = omega (arith, length_shown (memory_of q) q.front q.count, ap length e, m)
+room_empty q n e m = omega (arith, length_elements q, ap length e, m)
 
 -- what was pushed into an empty queue is all that it holds
 all_kept : {T : Type 0} (q q' : Queue T) (xs : List T) → elements q ≡ [] → Kept q xs q' → elements q' ≡ xs

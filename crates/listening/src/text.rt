@@ -6,7 +6,6 @@ ghost use Rattle.listening.specs.Listening.{lines_of, told, taken, listening, Li
 
 use line::recording::{Recording, RecordingFault};
 use line::tap::Tap;
-use link::dword::Dword;
 use link::receiver::Receiver;
 use reports::collecting::{Stop, collect};
 use reports::queue::Queue;
@@ -14,18 +13,6 @@ use reports::record::DwordRecord;
 use reports::report::{EndOfTap, Report};
 use std::alloc::Global;
 use std::fmt;
-
-// What stands in memory that holds no dword yet.
-const NO_DWORD: DwordRecord = DwordRecord {
-    number: 0,
-    dword: Dword {
-        kind: 0,
-        b0: 0,
-        b1: 0,
-        b2: 0,
-        b3: 0,
-    },
-};
 
 // Why listening gave up: the recording was not opened, for this whole reason, or memory for the text was wanting.
 #[derive(Clone, Copy)]
@@ -90,7 +77,7 @@ fn tell_all<T: Tap>(
     ensures text { IfOk result (λ n. string_bytes text.new ≡ string_bytes text.old ++ told receiver.old.state (T.meaning tap.old).waiting) }
     ensures taken { IfOk result (λ n. n ≡ taken receiver.old.state (T.meaning tap.old).waiting) }
 {
-    let mut dword_memory = [NO_DWORD; 1];
+    let mut dword_memory = [DwordRecord::default(); 1];
     let mut report_memory = [Report::Lost; 3];
     let mut dwords = Queue::over(&mut dword_memory);
     let mut reports = Queue::over(&mut report_memory);
