@@ -15,7 +15,7 @@ use std::alloc::Global;
 use std::fmt;
 
 // Why listening gave up: the recording was not opened, for this whole reason, or memory for the text was wanting.
-#[derive(Clone, Copy)]
+#[derive(Clone, Copy, PartialEq, Eq, Debug)]
 pub enum ListenFault {
     NotOpened(RecordingFault),
     NoMemory,

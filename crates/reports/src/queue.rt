@@ -13,7 +13,7 @@ pub struct Queue<'a, T> {
 }
 
 // A full queue gives the element back.
-#[derive(Clone, Copy)]
+#[derive(Clone, Copy, PartialEq, Eq, Debug)]
 pub enum QueueRefusal<T> {
     Full(T),
 }

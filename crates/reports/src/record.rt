@@ -1,6 +1,7 @@
 // Dwords that were handed out, and how they are printed.
-ghost use Rattle.std.specs.Prelude.{◌≡◌, Some};
-ghost use Rattle.reports.specs.Shown.{dword_record, dword_text};
+ghost use Rattle.std.specs.Prelude.{◌≡◌, ◌<◌, true, Some};
+ghost use Rattle.std.specs.Fmt.{digit_glyph};
+ghost use Rattle.reports.specs.Shown.{dword_record, hex_pair, dword_text};
 
 use link::dword::Dword;
 use link::heard::GoodDword;
@@ -24,21 +25,45 @@ impl From<GoodDword> for DwordRecord {
     }
 }
 
+// A byte as two hexadecimal digits.
+// Kept: `{:02X}` prints the same, but with it `listen` takes an eighth more time.
+#[derive(Clone, Copy)]
+struct HexByte(u8);
+
+fn hex_digit(n: u8) -> char
+    requires { n < 16 }
+    ensures { result ≡ digit_glyph true n }
+{
+    if n < 10 {
+        (b'0' + n) as char
+    } else {
+        (b'A' + (n - 10)) as char
+    }
+}
+
+impl fmt::Display for HexByte {
+    ghost output = { λ x. Some (hex_pair x.0) };
+
+    fn fmt<W: fmt::Write>(&self, f: &mut fmt::Formatter<W>) -> fmt::Result {
+        let high = hex_digit(self.0 / 16);
+        let low = hex_digit(self.0 % 16);
+        write!(f, "{high}{low}")
+    }
+}
+
 impl fmt::Display for DwordRecord {
     ghost output = { λ x. Some (dword_text x) };
 
     fn fmt<W: fmt::Write>(&self, f: &mut fmt::Formatter<W>) -> fmt::Result {
-        let number = self.number;
-        let Dword {
-            kind,
-            b0,
-            b1,
-            b2,
-            b3,
-        } = self.dword;
+        let DwordRecord { number, dword } = *self;
+        let kind = dword.kind;
         write!(
             f,
-            "dword {number} {kind} {b0:02X} {b1:02X} {b2:02X} {b3:02X}"
+            "dword {number} {kind} {} {} {} {}",
+            HexByte(dword.b0),
+            HexByte(dword.b1),
+            HexByte(dword.b2),
+            HexByte(dword.b3)
         )
     }
 }
