@@ -5,7 +5,7 @@ use code::K28_5;
 
 // Four characters sent together: kind 0 is four data codes, kind 1 a special code and three data codes.
 // Kept: the kind is a number, since sending refuses those above 1 by number.
-#[derive(Clone, Copy, PartialEq, Eq, Debug)]
+#[derive(Clone, Copy, PartialEq, Eq, Default, Debug)]
 pub struct Dword {
     pub kind: u8,
     pub b0: u8,

@@ -16,7 +16,7 @@ digit_is n c h e =
 
 pub returns-clause-writes : goal.returns-clause-writes
 returns-clause-writes g c =
-    let byte = c.args.self.now.byte in
+    let byte = c.args.self.now.0 in
     let high = digit_is (byte / 16) c.hex_digit-high.result (omega arith) c.hex_digit-high.ensures in
     let low = digit_is (byte % 16) c.hex_digit-low.result (omega arith) c.hex_digit-low.ensures in
     let e : encode c.hex_digit-high.result ++ encode c.hex_digit-low.result ≡ hex_pair byte = ap₂ (λ (x y : List ℕ). x ++ y) high low in
