@@ -19,7 +19,7 @@ in_first_window n = record {
   phase = Negotiating;
   elapsed = n;
   detector = deaf;
-  window = record { rate = G1; last = false; follows = false; locked = false; aligned = false };
+  window = Some (record { rate = G1; last = false; follows = false; locked = false; aligned = false });
 }
 
 -- What that end sends when it notes there that it is locked: ALIGN(1) if the lock counts.

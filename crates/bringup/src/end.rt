@@ -2,6 +2,9 @@
 use crate::detector::Detector;
 use crate::rate::{Rate, RateSet};
 
+// The most ticks that a note takes.
+pub(crate) const MOST_TICKS: u32 = 400_000;
+
 pub mod asking;
 pub mod examples;
 pub mod noting;
@@ -58,12 +61,12 @@ pub enum Outcome {
     Failed,
 }
 
-// `elapsed` counts the ticks of the phase, up to the longest that matters.
+// `elapsed` counts the ticks of the phase, up to the longest that matters; before the first window there is none.
 #[derive(Drop)]
 pub struct End {
     rates: RateSet,
     phase: Phase,
     elapsed: u32,
     detector: Detector,
-    window: Window,
+    window: Option<Window>,
 }

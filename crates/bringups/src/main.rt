@@ -4,7 +4,7 @@
 
 use anyhow::Context;
 use bringup::end::{End, Outcome};
-use bringup::signal::Signal;
+use bringup::signal::{BURST_TICKS, Signal};
 use std::env;
 
 // What came of the bring-ups.
@@ -18,7 +18,7 @@ struct Count {
 fn note_signal(end: &mut End, signal: Signal) {
     for _ in 0..6 {
         let _ = end.note(signal.idle(), 1);
-        let _ = end.note(320, 2);
+        let _ = end.note(BURST_TICKS, 2);
     }
     let _ = end.note(signal.closing_idle(), 0);
 }
