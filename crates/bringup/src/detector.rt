@@ -27,16 +27,11 @@ pub struct Detector {
 fn signal_of(idle: u32) -> Option<Signal>
     ensures { result ≡ signal_of idle }
 {
-    if idle < 165 {
-        None
-    } else if idle < 525 {
-        Some(Signal::Comwake)
-    } else if idle < 1_575 {
-        Some(Signal::Cominit)
-    } else if idle < LONGEST_IDLE {
-        Some(Signal::Comsas)
-    } else {
-        None
+    match idle {
+        165..525 => Some(Signal::Comwake),
+        525..1_575 => Some(Signal::Cominit),
+        1_575..LONGEST_IDLE => Some(Signal::Comsas),
+        _ => None,
     }
 }
 
