@@ -1,11 +1,8 @@
 -- On a fair line both ends come to one outcome.
 use Rattle.std.proofs.Common.{◌≡◌, ℕ, ◌+◌, ◌-◌, ◌*◌, ◌≤◌, max, true, false, ◌⊎◌, ap, inl, inr, arith}
-use Rattle.std.proofs.lemmas.Bool.{false≢true, cases_lt, or_right, or_left, and_parts}
-use Rattle.bringup.specs.declared.rate.Rate.{Rate}
-use Rattle.bringup.specs.declared.rate.RateSet.{RateSet}
+use Rattle.std.proofs.lemmas.Bool.{false≢true, cases_lt, or_right, or_left}
 use Rattle.bringup.specs.declared.rate.Rate.TheVariants.{G1}
 use Rattle.bringup.specs.Bringup.{signalled}
-use Rattle.bringup.specs.Rates.{supports, rate_number}
 use Rattle.agreement.specs.FairLine.{Life, Hears, Reaches, Agreement, LivedFor, age, signs_at, Over, over, BothReady, BothFailed}
 use Rattle.agreement.proofs.Machine.{ears}
 use Rattle.agreement.proofs.Stages.{over-begun, begins_by, signalled_stays}

@@ -1,10 +1,10 @@
 -- How one end goes from tick to tick, phase by phase.
-use Rattle.std.proofs.Common.{◌≡◌, ℕ, zero, suc, ◌+◌, ◌<◌, Bool, true, false, cond, ◌&&◌, ◌||◌, ltb, leb, List, [], ◌∷◌, Some, None, Option, sym, refl, ap, ◌∙◌, add-one, arith}
-use Rattle.std.proofs.lemmas.Bool.{cond-true, cond-false, cond_both, lt-ltb, and_right}
+use Rattle.std.proofs.Common.{◌≡◌, ℕ, zero, suc, ◌<◌, Bool, true, false, cond, ◌&&◌, ◌||◌, ltb, leb, List, [], ◌∷◌, Some, None, Option, sym, refl, ap, ◌∙◌, arith}
+use Rattle.std.proofs.lemmas.Bool.{cond-false, lt-ltb, and_right}
 use Rattle.std.proofs.lemmas.Bool.Decides.{nat_tests}
 use Rattle.bringup.specs.declared.detector.Detector.{Detector}
 use Rattle.bringup.specs.declared.end.Phase.{Phase}
-use Rattle.bringup.specs.declared.end.Phase.TheVariants.{SendingCominit, Awaiting, SendingComsas, Falling, Negotiating, Failed}
+use Rattle.bringup.specs.declared.end.Phase.TheVariants.{SendingCominit, Awaiting, SendingComsas, Falling, Negotiating}
 use Rattle.bringup.specs.declared.rate.Rate.TheVariants.{G1}
 use Rattle.bringup.specs.declared.rate.RateSet.{RateSet}
 use Rattle.bringup.specs.declared.end.Window.{Window}
@@ -78,7 +78,7 @@ signs_other (g ∷ gs) s p k d w a n = ap (all_signed gs) (sign_other g s p k d 
 
 -- within the longest phase every tick is counted
 pub later_below : (k : ℕ) → k < 328640 → later k ≡ suc k
-later_below k h = cond-true (ltb k 328640) (k + 1) k (lt-ltb k 328640 h) ∙ add-one k
+later_below k h = grind (arith, nat_tests)
 
 -- COMINIT goes on
 pub cominit_step : (gs : List Sign) (s : RateSet) (k : ℕ) (d : Detector) (w : Option Window) → suc k < 9255 →
@@ -110,10 +110,7 @@ pub sign-waiting : (g : Sign) (s : RateSet) (k : ℕ) (d : Detector) (w : Option
 sign-waiting g s k d w = go (signalled d) refl
   where
     go : (b : Bool) → signalled d ≡ b → signed g (waiting s k d w) ≡ waiting s k (heard_one g d) w
-    go true e =
-        ap (signed g) (cond-true (signalled d) (make s SendingComsas 0 d w) (make s Awaiting k d w) e)
-        ∙ sign_other g s SendingComsas 0 d w refl refl
-        ∙ sym (cond-true (signalled (heard_one g d)) (make s SendingComsas 0 (heard_one g d) w) (make s Awaiting k (heard_one g d) w) (kept g))
+    go true e = rw (e, kept g) (sign_other g s SendingComsas 0 d w refl refl)
       where
         kept : (g : Sign) → signalled (heard_one g d) ≡ true
         kept Nothing = e
@@ -121,8 +118,7 @@ sign-waiting g s k d w = go (signalled d) refl
         kept BurstEnds = e
         kept Locked = e
         kept Align1 = e
-    go false e =
-        ap (signed g) (cond-false (signalled d) (make s SendingComsas 0 d w) (make s Awaiting k d w) e) ∙ one g
+    go false e = rw e (one g)
       where
         one : (g : Sign) → signed g (make s Awaiting k d w) ≡ waiting s k (heard_one g d) w
         one Nothing = sym (cond-false (signalled d) (make s SendingComsas 0 d w) (make s Awaiting k d w) e)
@@ -163,19 +159,14 @@ first_window = record { rate = G1; last = false; follows = false; locked = false
 pub comsas_end : (gs : List Sign) (s : RateSet) (d : Detector) (w : Option Window) → (passed d).fallen ≡ false →
     all_signed gs (tick (make s SendingComsas 23924 d w)) ≡ make s Falling 0 (heard gs (passed d)) w
 comsas_end gs s d w f =
-    ap (all_signed gs) (cond-false (passed d).fallen (make s Negotiating 0 (passed d) (Some first_window)) (make s Falling 0 (passed d) w) f)
-    ∙ signs_other gs s Falling 0 (passed d) w refl refl
+    rw f (signs_other gs s Falling 0 (passed d) w refl refl)
 
 -- while nothing has fallen, and it is detected or time is left, the end waits on
 pub falling_step : (gs : List Sign) (s : RateSet) (k : ℕ) (d : Detector) (w : Option Window) → (passed d).fallen ≡ false →
     ((passed d).comsas || ltb (later k) 32640) ≡ true →
     all_signed gs (tick (make s Falling k d w)) ≡ make s Falling (later k) (heard gs (passed d)) w
 falling_step gs s k d w f g =
-    ap (all_signed gs)
-    (cond-false (passed d).fallen (make s Negotiating 0 (passed d) (Some first_window))
-    (cond ((passed d).comsas || ltb (later k) 32640) (make s Falling (later k) (passed d) w) (make s Failed 0 (passed d) w)) f
-    ∙ cond-true ((passed d).comsas || ltb (later k) 32640) (make s Falling (later k) (passed d) w) (make s Failed 0 (passed d) w) g)
-    ∙ signs_other gs s Falling (later k) (passed d) w refl refl
+    rw (f, g) (signs_other gs s Falling (later k) (passed d) w refl refl)
 
 -- a window's signs
 abbrev pub in_time : RateSet → ℕ → Window → Bool
@@ -200,16 +191,8 @@ pub sign_window : (g : Sign) (s : RateSet) (k : ℕ) (d : Detector) (w : Window)
 sign_window Nothing s k d w = refl
 sign_window BurstStarts s k d w = refl
 sign_window BurstEnds s k d w = refl
-sign_window Locked s k d w =
-    cond_both (in_time s k w) (locked_window w) w
-    (λ z. cond (in_time s k w) (make s Negotiating k d (Some (locked_window w))) (make s Negotiating k d (Some w)) ≡ make s Negotiating k d (Some z))
-    (λ e. cond-true (in_time s k w) (make s Negotiating k d (Some (locked_window w))) (make s Negotiating k d (Some w)) e)
-    (λ e. cond-false (in_time s k w) (make s Negotiating k d (Some (locked_window w))) (make s Negotiating k d (Some w)) e)
-sign_window Align1 s k d w =
-    cond_both w.locked (aligned_window w) w
-    (λ z. cond w.locked (make s Negotiating k d (Some (aligned_window w))) (make s Negotiating k d (Some w)) ≡ make s Negotiating k d (Some z))
-    (λ e. cond-true w.locked (make s Negotiating k d (Some (aligned_window w))) (make s Negotiating k d (Some w)) e)
-    (λ e. cond-false w.locked (make s Negotiating k d (Some (aligned_window w))) (make s Negotiating k d (Some w)) e)
+sign_window Locked s k d w = grind (arith, nat_tests)
+sign_window Align1 s k d w = grind (arith, nat_tests)
 
 -- and so do all signs of a tick
 pub signs_window : (gs : List Sign) (s : RateSet) (k : ℕ) (d : Detector) (w : Window) →
@@ -247,17 +230,13 @@ signs_opening gs s d w e = signs_window gs s 0 d w ∙ ap (λ z. make s Negotiat
 pub comsas_open : (gs : List Sign) (s : RateSet) (d : Detector) (w : Option Window) → (passed d).fallen ≡ true →
     all_signed gs (tick (make s SendingComsas 23924 d w)) ≡ make s Negotiating 0 (heard gs (passed d)) (Some first_window)
 comsas_open gs s d w f =
-    ap (all_signed gs) (cond-true (passed d).fallen (make s Negotiating 0 (passed d) (Some first_window)) (make s Falling 0 (passed d) w) f)
-    ∙ signs_opening gs s (passed d) first_window refl
+    rw f (signs_opening gs s (passed d) first_window refl)
 
 -- the other falls while the end waits: the first window opens
 pub falling_open : (gs : List Sign) (s : RateSet) (k : ℕ) (d : Detector) (w : Option Window) → (passed d).fallen ≡ true →
     all_signed gs (tick (make s Falling k d w)) ≡ make s Negotiating 0 (heard gs (passed d)) (Some first_window)
 falling_open gs s k d w f =
-    ap (all_signed gs)
-    (cond-true (passed d).fallen (make s Negotiating 0 (passed d) (Some first_window))
-    (cond ((passed d).comsas || ltb (later k) 32640) (make s Falling (later k) (passed d) w) (make s Failed 0 (passed d) w)) f)
-    ∙ signs_opening gs s (passed d) first_window refl
+    rw f (signs_opening gs s (passed d) first_window refl)
 
 -- the last tick closes the window, and then its signs are heard
 pub window_end : (gs : List Sign) (s : RateSet) (d : Detector) (w : Window) →

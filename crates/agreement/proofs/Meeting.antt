@@ -1,5 +1,6 @@
 -- Two ends that have sent COMSAS open their first windows together.
 use Rattle.std.proofs.Common.{◌≡◌, ℕ, suc, ◌+◌, ◌-◌, ◌<◌, ◌≤◌, Bool, true, false, ◌⊎◌, None, List, sym, refl, ap, ◌∙◌, subst, inl, inr, arith}
+use Rattle.std.proofs.lemmas.Bool.Decides.{nat_tests}
 use Rattle.std.proofs.lemmas.Bool.{both_ways, false≢true, cases_lt, or_right}
 use Rattle.bringup.specs.declared.end.Phase.TheVariants.{Falling}
 use Rattle.bringup.specs.declared.rate.Rate.{Rate}
@@ -18,8 +19,7 @@ use Rattle.agreement.proofs.Pair.{At, SilentBefore}
 
 -- a signal is no ALIGN(1)
 not_align1_sending : (b : Bool) → is_align1 (sending b) ≡ false
-not_align1_sending true = refl
-not_align1_sending false = refl
+not_align1_sending b = grind (arith, nat_tests)
 
 -- x begins COMSAS at its tick c
 abbrev pub Starts : Life → ℕ → Type 0

@@ -1,5 +1,6 @@
 -- One window of one end.
 use Rattle.std.proofs.Common.{◌≡◌, ℕ, zero, suc, ◌+◌, ◌-◌, ◌<◌, ◌≤◌, Bool, true, false, cond, ◌&&◌, leb, ◌⊎◌, List, [], ◌∷◌, Some, Option, sym, refl, ap, ◌∙◌, subst, inl, inr, add-zero, add-suc, arith}
+use Rattle.std.proofs.lemmas.Bool.Decides.{nat_tests}
 use Rattle.std.proofs.lemmas.Bool.{cond-true, cond-false, cond_both, and_from, and_parts, le-leb, leb-true, both_ways, false≢true, cases_Bool, cases_lt, or_right}
 use Rattle.bringup.specs.declared.end.Phase.{Phase}
 use Rattle.bringup.specs.declared.end.Phase.TheVariants.{Negotiating, Ready, Failed}
@@ -11,7 +12,7 @@ use Rattle.bringup.specs.declared.end.Sign.TheVariants.{Nothing, BurstStarts, Bu
 use Rattle.bringup.specs.declared.end.Activity.{Activity}
 use Rattle.bringup.specs.declared.end.Activity.TheVariants.{Idle, Burst}
 use Rattle.bringup.specs.declared.end.Activity.TheVariants as sends
-use Rattle.bringup.specs.Bringup.{locked_window, aligned_window, closing, entered, later}
+use Rattle.bringup.specs.Bringup.{locked_window, aligned_window, closing, later}
 use Rattle.bringup.specs.Rates.{supports, next_rate, previous_rate, past_highest}
 use Rattle.bringup.specs.Asking.{activity}
 use Rattle.bringup.specs.Detection.{passed}
@@ -58,9 +59,9 @@ grows_more g gs s k v w h = record {
 -- a lock ahead of other signs
 grows_locked : (gs : List Sign) (s : RateSet) (k : ℕ) (w : Window) → ((v : Window) → Grows s k gs v (window_all gs s k v)) →
     (b : Bool) → in_time s k w ≡ b → Grows s k (Locked ∷ gs) w (window_all gs s k (cond (in_time s k w) (locked_window w) w))
-grows_locked gs s k w rest true e = subst (λ z. Grows s k (Locked ∷ gs) w (window_all gs s k z)) (sym (cond-true (in_time s k w) (locked_window w) w e))
-    (let h = rest (locked_window w) in
-    record {
+grows_locked gs s k w rest true e =
+    let h = rest (locked_window w) in
+    rw e (record {
       rate = h.rate;
       last = h.last;
       valid_before = h.valid_before;
@@ -69,8 +70,7 @@ grows_locked gs s k w rest true e = subst (λ z. Grows s k (Locked ∷ gs) w (wi
       lock_counts = λ _. inr e;
       align_noted = h.align_noted;
     })
-grows_locked gs s k w rest false e = subst (λ z. Grows s k (Locked ∷ gs) w (window_all gs s k z)) (sym (cond-false (in_time s k w) (locked_window w) w e))
-    (grows_more Locked gs s k w (window_all gs s k w) (rest w))
+grows_locked gs s k w rest false e = rw e (grows_more Locked gs s k w (window_all gs s k w) (rest w))
 
 -- an ALIGN(1) ahead of other signs
 grows_align : (gs : List Sign) (s : RateSet) (k : ℕ) (w : Window) → ((v : Window) → Grows s k gs v (window_all gs s k v)) →
@@ -131,8 +131,7 @@ is_align1 sends.Align1 = true
 
 -- it does not before a lock has counted
 not_align1 : (b : Bool) → is_align1 (cond b sends.Align0 Idle) ≡ false
-not_align1 true = refl
-not_align1 false = refl
+not_align1 b = grind (arith, nat_tests)
 
 -- a window as it opens
 abbrev pub fresh_window : Rate → Bool → Bool → Window
@@ -284,18 +283,6 @@ module _ (h : ℕ → List Sign) (s : RateSet) (o : ℕ) (w : Window) (fresh : w
   reopened r last av e = closes Negotiating (Some (fresh_window r last av))
       (ap (all_signed (h (suc (o + 328639)))) e ∙ signs_opening (h (suc (o + 328639))) s last_detector (fresh_window r last av) refl)
 
-  -- what follows a window that is not the last, by its validity
-  not_last : w.last ≡ false → closing (current 328639) last_end ≡
-      cond valid (make s Negotiating 0 last_detector (Some (fresh_window (next_rate (current 328639).rate) false true)))
-      (cond (current 328639).follows (make s Negotiating 0 last_detector (Some (fresh_window (previous_rate (current 328639).rate) true false)))
-      (cond (past_highest s (current 328639).rate) (make s Failed 0 last_detector (Some (current 328639)))
-      (make s Negotiating 0 last_detector (Some (fresh_window (next_rate (current 328639).rate) false false)))))
-  not_last e = cond-false (current 328639).last (entered (cond valid Ready Failed) last_end)
-      (cond valid (make s Negotiating 0 last_detector (Some (fresh_window (next_rate (current 328639).rate) false true)))
-      (cond (current 328639).follows (make s Negotiating 0 last_detector (Some (fresh_window (previous_rate (current 328639).rate) true false)))
-      (cond (past_highest s (current 328639).rate) (make s Failed 0 last_detector (Some (current 328639)))
-      (make s Negotiating 0 last_detector (Some (fresh_window (next_rate (current 328639).rate) false false)))))) (open_last 328639 ∙ e)
-
   -- a valid final window gives ready
   pub closes_ready : w.last ≡ true → valid ≡ true → In h s (o + 328640) Ready 0 (Some (current 328639))
   closes_ready l v = closes Ready (Some (current 328639))
@@ -308,24 +295,24 @@ module _ (h : ℕ → List Sign) (s : RateSet) (o : ℕ) (w : Window) (fresh : w
 
   -- a valid window is followed by the next rate
   pub closes_valid : w.last ≡ false → valid ≡ true → In h s (o + 328640) Negotiating 0 (Some (fresh_window (next_rate w.rate) false true))
-  closes_valid l v = reopened (next_rate w.rate) false true (not_last l ∙ simp (v, open_rate 328639))
+  closes_valid l v = reopened (next_rate w.rate) false true (simp (open_last 328639, l, v, open_rate 328639))
 
   -- an invalid one after a valid one is followed by the final one
   pub closes_back : w.last ≡ false → valid ≡ false → w.follows ≡ true →
       In h s (o + 328640) Negotiating 0 (Some (fresh_window (previous_rate w.rate) true false))
-  closes_back l v a = reopened (previous_rate w.rate) true false (not_last l ∙ simp (v, open_valid_before 328639, a, open_rate 328639))
+  closes_back l v a = reopened (previous_rate w.rate) true false (simp (open_last 328639, l, v, open_valid_before 328639, a, open_rate 328639))
 
   -- an invalid one above the highest rate gives failed
   pub closes_gives_up : w.last ≡ false → valid ≡ false → w.follows ≡ false → past_highest s w.rate ≡ true →
       In h s (o + 328640) Failed 0 (Some (current 328639))
   closes_gives_up l v a p = closes Failed (Some (current 328639))
-      (ap (all_signed (h (suc (o + 328639)))) (not_last l ∙ simp (v, open_valid_before 328639, a, open_rate 328639, p))
+      (ap (all_signed (h (suc (o + 328639)))) (simp (open_last 328639, l, v, open_valid_before 328639, a, open_rate 328639, p))
       ∙ signs_other (h (suc (o + 328639))) s Failed 0 last_detector (Some (current 328639)) refl refl)
 
   -- any other is followed by the next rate
   pub closes_next : w.last ≡ false → valid ≡ false → w.follows ≡ false → past_highest s w.rate ≡ false →
       In h s (o + 328640) Negotiating 0 (Some (fresh_window (next_rate w.rate) false false))
-  closes_next l v a p = reopened (next_rate w.rate) false false (not_last l ∙ simp (v, open_valid_before 328639, a, open_rate 328639, p))
+  closes_next l v a p = reopened (next_rate w.rate) false false (simp (open_last 328639, l, v, open_valid_before 328639, a, open_rate 328639, p))
 
 -- an end that is ready or failed stays so
 module _ (h : ℕ → List Sign) (s : RateSet) (t : ℕ) (w : Option Window) where
