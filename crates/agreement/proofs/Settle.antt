@@ -1,6 +1,7 @@
 -- Two ends that open a window together come to one outcome.
 use Rattle.std.proofs.Common.{◌≡◌, ℕ, zero, suc, ◌+◌, ◌-◌, ◌*◌, ◌<◌, ◌≤◌, Bool, true, false, ◌⊎◌, Some, sym, refl, ap, ◌∙◌, subst, inl, inr, arith}
 use Rattle.std.proofs.lemmas.Bool.{both_ways, true≢false, false≢true, cases_Bool, cases_lt, and_from, and_parts}
+use Rattle.bringup.specs.declared.end.Phase.{Phase}
 use Rattle.bringup.specs.declared.end.Phase.TheVariants.{Negotiating, Ready, Failed}
 use Rattle.bringup.specs.declared.rate.Rate.{Rate}
 use Rattle.bringup.specs.declared.end.Window.{Window}
@@ -10,7 +11,7 @@ use Rattle.bringup.specs.Rates.{supports, next_rate, previous_rate, past_highest
 use Rattle.bringup.specs.Asking.{activity, latest_rate, outcome_in}
 use Rattle.agreement.specs.FairLine.{Life, Hears, state_at, rate_at, present, present_rate, age, signs_at, Over, is_over, BothReady, BothFailed, shared, OpensWindow, LocksInTime, has}
 use Rattle.agreement.proofs.Stages.{In}
-use Rattle.agreement.proofs.Windows.{current, window_stage, open_rate, lock_noted, locked_since, fresh_window, is_align1, closes_ready, closes_failed, closes_valid, closes_back, closes_gives_up, closes_next, ready_stays, failed_stays}
+use Rattle.agreement.proofs.Windows.{current, window_stage, open_rate, lock_noted, locked_since, fresh_window, is_align1, closes_ready, closes_failed, closes_valid, closes_back, closes_gives_up, closes_next, over_stays}
 use Rattle.agreement.proofs.RateOrder.{Within, within_step, at_least_one, at_most_four, rate_same, next_differs, previous_differs, supported_next, supported_above}
 use Rattle.agreement.proofs.Pair.{At, Silent, SilentBefore, invalid_alone, valid_both_locked, both_locked_valid}
 
@@ -38,20 +39,18 @@ module _ (x : Life) where
   pub lasting_next : (o n : ℕ) → o + 328640 ≤ age x.notes → Lasting x o (suc n) → Lasting x (o + 328640) n
   lasting_next o n c l = (c, elim l.1 [ inl over ↦ inl over | inr long ↦ inr (omega arith) ])
 
-  -- an end that was ready is ready now, at that rate
-  pub ends_ready : (t : ℕ) (w : Window) → In (signs_at x.notes) x.rates t Ready 0 (Some w) → t ≤ age x.notes → ((present x).phase ≡ Ready) × (present_rate x ≡ Some w.rate)
-  ends_ready t w e le =
-      let (n, i) = ready_stays (signs_at x.notes) x.rates t (Some w) 0 e (age x.notes - t) in
+  -- an end that was over is so now, at that rate
+  pub ends_over : (p : Phase) → is_over p ≡ true → (t : ℕ) (w : Window) → In (signs_at x.notes) x.rates t p 0 (Some w) → t ≤ age x.notes →
+      ((present x).phase ≡ p) × (present_rate x ≡ Some w.rate)
+  ends_over p over t w e le =
+      let (n, i) = over_stays (signs_at x.notes) x.rates t (Some w) p over 0 e (age x.notes - t) in
       let z : t + (age x.notes - t) ≡ age x.notes = omega arith in
-      let j : In (signs_at x.notes) x.rates (age x.notes) Ready n (Some w) = subst (λ q. In (signs_at x.notes) x.rates q Ready n (Some w)) z i in
+      let j : In (signs_at x.notes) x.rates (age x.notes) p n (Some w) = subst (λ q. In (signs_at x.notes) x.rates q p n (Some w)) z i in
       (ap (λ q. q.phase) j, ap (λ q. latest_rate q.window) j)
 
   -- an end that failed is failed now
   pub ends_failed : (t : ℕ) (w : Window) → In (signs_at x.notes) x.rates t Failed 0 (Some w) → t ≤ age x.notes → (present x).phase ≡ Failed
-  ends_failed t w e le =
-      let (n, i) = failed_stays (signs_at x.notes) x.rates t (Some w) 0 e (age x.notes - t) in
-      let z : t + (age x.notes - t) ≡ age x.notes = omega arith in
-      ap (λ q. q.phase) (subst (λ q. In (signs_at x.notes) x.rates q Failed n (Some w)) z i)
+  ends_failed t w e le = (ends_over Failed refl t w e le).0
 
   -- in the last part of a window, only its rate is sent at
   pub window_rate : (o : ℕ) (w : Window) → w.locked ≡ false → w.aligned ≡ false → At x o w → (u : ℕ) → u < o + 328640 → o + 328640 ≤ u + 14000 → rate_at x u ≡ Some w.rate
@@ -64,7 +63,7 @@ module _ (x : Life) where
   -- a failed end sends nothing
   failed_idle : (t : ℕ) (w : Window) → In (signs_at x.notes) x.rates t Failed 0 (Some w) → (u : ℕ) → t ≤ u → activity (state_at x u) ≡ Idle
   failed_idle t w e u le =
-      let (n, i) = failed_stays (signs_at x.notes) x.rates t (Some w) 0 e (u - t) in
+      let (n, i) = over_stays (signs_at x.notes) x.rates t (Some w) Failed refl 0 e (u - t) in
       let z : t + (u - t) ≡ u = omega arith in
       subst (λ q. activity (state_at x q) ≡ Idle) z (ap activity i)
 
@@ -201,9 +200,9 @@ module _ (delay : ℕ) (short : delay ≤ 7000) (a b : Life) (fair-a : Hears del
       let cb : ob + 328640 ≤ age b.notes = lasting_closes b ob 0 w refl refl j.opens_b lb in
       elim (together delay short a b fair-a fair-b oa ob w refl refl j ca cb) [
         | inl p ↦
-            (let ra = ends_ready a (oa + 328640) (current (signs_at a.notes) a.rates oa w refl refl j.opens_a 328639)
+            (let ra = ends_over a Ready refl (oa + 328640) (current (signs_at a.notes) a.rates oa w refl refl j.opens_a 328639)
             (closes_ready (signs_at a.notes) a.rates oa w refl refl j.opens_a refl p.0) ca in
-            let rb = ends_ready b (ob + 328640) (current (signs_at b.notes) b.rates ob w refl refl j.opens_b 328639)
+            let rb = ends_over b Ready refl (ob + 328640) (current (signs_at b.notes) b.rates ob w refl refl j.opens_b 328639)
             (closes_ready (signs_at b.notes) b.rates ob w refl refl j.opens_b refl p.1) cb in
             let ready : BothReady a b = record {
               first = ap outcome_in ra.0;

@@ -1,6 +1,6 @@
 -- The stages of one end's life, in closed form.
 use Rattle.std.proofs.Common.{◌≡◌, ℕ, zero, suc, ◌+◌, ◌-◌, ◌<◌, ◌≤◌, Bool, true, false, ◌||◌, ltb, ◌⊎◌, List, [], ◌∷◌, Some, None, Option, sym, refl, ap, ◌∙◌, subst, ap₂, inl, inr, add-zero, add-suc, arith}
-use Rattle.std.proofs.lemmas.Bool.{cond-true, cond-false, cond_both, lt-ltb, cases_lt, cases_Bool, both_ways, false≢true, or_left, or_right}
+use Rattle.std.proofs.lemmas.Bool.{cond-true, cond-false, lt-ltb, cases_lt, cases_Bool, both_ways, false≢true, or_left, or_right}
 use Rattle.std.proofs.lemmas.Bool.Decides.{nat_tests}
 use Rattle.bringup.specs.declared.detector.Detector.{Detector}
 use Rattle.bringup.specs.declared.end.Phase.{Phase}
@@ -106,12 +106,11 @@ module _ (h : ℕ → List Sign) (s : RateSet) where
 
   -- a waiting end sends no burst
   waiting_silent : (k : ℕ) (d : Detector) (w : Option Window) → is_burst (activity (waiting s k d w)) ≡ false
-  waiting_silent k d w = cond_both (signalled d) (make s SendingComsas 0 d w) (make s Awaiting k d w) (λ z. is_burst (activity z) ≡ false) (λ _. refl) (λ _. refl)
+  waiting_silent k d w = grind (arith, nat_tests)
 
   -- of a signal it sends just the bursts
   sent-burst : (b : Bool) → is_burst (sending b) ≡ b
-  sent-burst true = refl
-  sent-burst false = refl
+  sent-burst b = grind (arith, nat_tests)
 
   -- until COMSAS begins, COMINIT's bursts are all that is sent
   pub sends_cominit : (x : ℕ) → Unheard x → (i : ℕ) → i ≤ x → bursts i ≡ in_burst 960 i
@@ -143,27 +142,28 @@ module _ (h : ℕ → List Sign) (s : RateSet) where
 
   -- From COMSAS to the first window
 
-  -- what is detected stays so
-  heard_fallen : (gs : List Sign) (d : Detector) → (heard gs d).fallen ≡ d.fallen
-  heard_fallen [] d = refl
-  heard_fallen (Nothing ∷ gs) d = heard_fallen gs d
-  heard_fallen (BurstStarts ∷ gs) d = heard_fallen gs (risen d) ∙ risen_fallen d
-  heard_fallen (BurstEnds ∷ gs) d = heard_fallen gs (ceased d)
-  heard_fallen (Locked ∷ gs) d = heard_fallen gs d
-  heard_fallen (Align1 ∷ gs) d = heard_fallen gs d
+  -- what burst edges keep, the signs of a tick keep
+  heard_keeps : (P : Detector → Type 0) → ((d : Detector) → P d → P (risen d)) → ((d : Detector) → P d → P (ceased d)) →
+      (gs : List Sign) (d : Detector) → P d → P (heard gs d)
+  heard_keeps P r c [] d p = p
+  heard_keeps P r c (Nothing ∷ gs) d p = heard_keeps P r c gs d p
+  heard_keeps P r c (BurstStarts ∷ gs) d p = heard_keeps P r c gs (risen d) (r d p)
+  heard_keeps P r c (BurstEnds ∷ gs) d p = heard_keeps P r c gs (ceased d) (c d p)
+  heard_keeps P r c (Locked ∷ gs) d p = heard_keeps P r c gs d p
+  heard_keeps P r c (Align1 ∷ gs) d p = heard_keeps P r c gs d p
 
-  -- signs do not undo the detection of COMSAS
-  heard_comsas : (gs : List Sign) (d : Detector) → d.comsas ≡ true → (heard gs d).comsas ≡ true
-  heard_comsas [] d e = e
-  heard_comsas (Nothing ∷ gs) d e = heard_comsas gs d e
-  heard_comsas (BurstStarts ∷ gs) d e = heard_comsas gs (risen d) (risen_comsas d e)
-  heard_comsas (BurstEnds ∷ gs) d e = heard_comsas gs (ceased d) e
-  heard_comsas (Locked ∷ gs) d e = heard_comsas gs d e
-  heard_comsas (Align1 ∷ gs) d e = heard_comsas gs d e
+  -- and what ticks keep too, stays
+  ears_keep : (P : Detector → Type 0) → ((d : Detector) → P d → P (risen d)) → ((d : Detector) → P d → P (ceased d)) →
+      ((d : Detector) → P d → P (passed d)) → (t j : ℕ) → P (ears h t) → P (ears h (t + j))
+  ears_keep P r c q t zero p = rw (add-zero t) p
+  ears_keep P r c q t (suc j) p = rw (add-suc t j)
+      (subst P (sym (ears_suc h (t + j)))
+      (heard_keeps P r c (h (suc (t + j))) (passed (ears h (t + j))) (q (ears h (t + j)) (ears_keep P r c q t j p))))
 
   -- signs do not let COMSAS fall, only ticks do
   pub fallen_next : (t : ℕ) → (ears h (suc t)).fallen ≡ (passed (ears h t)).fallen
-  fallen_next t = ap (λ d. d.fallen) (ears_suc h t) ∙ heard_fallen (h (suc t)) (passed (ears h t))
+  fallen_next t = ap (λ d. d.fallen) (ears_suc h t)
+      ∙ heard_keeps (λ d. d.fallen ≡ (passed (ears h t)).fallen) (λ d e. risen_fallen d ∙ e) (λ _ e. e) (h (suc t)) (passed (ears h t)) refl
 
   -- what has fallen stays fallen
   pub fallen_stays : (t j : ℕ) → (passed (ears h t)).fallen ≡ true → (passed (ears h (t + j))).fallen ≡ true
@@ -173,10 +173,7 @@ module _ (h : ℕ → List Sign) (s : RateSet) where
 
   -- what is detected stays detected
   pub comsas_stays : (t j : ℕ) → (ears h t).comsas ≡ true → (ears h (t + j)).comsas ≡ true
-  comsas_stays t zero e = rw (add-zero t) e
-  comsas_stays t (suc j) e = rw (add-suc t j)
-      (ap (λ d. d.comsas) (ears_suc h (t + j))
-      ∙ heard_comsas (h (suc (t + j))) (passed (ears h (t + j))) ((passed_same (ears h (t + j))).4 ∙ comsas_stays t j e))
+  comsas_stays = ears_keep (λ d. d.comsas ≡ true) risen_comsas (λ _ e. e) (λ d e. (passed_same d).4 ∙ e)
 
   -- a tick counts for one at most
   later_at_most : (k : ℕ) → later k ≤ k + 1
@@ -233,21 +230,10 @@ module _ (h : ℕ → List Sign) (s : RateSet) where
         step (c + 23925 + j) Falling Negotiating k 0 None (Some first_window) p.1
         (falling_open (h (suc (c + 23925 + j))) s k (ears h (c + 23925 + j)) None f)
 
-  -- a signal detected stays so
-  heard-signalled : (gs : List Sign) (d : Detector) → signalled d ≡ true → signalled (heard gs d) ≡ true
-  heard-signalled [] d e = e
-  heard-signalled (Nothing ∷ gs) d e = heard-signalled gs d e
-  heard-signalled (BurstStarts ∷ gs) d e = heard-signalled gs (risen d) (risen-signalled d e)
-  heard-signalled (BurstEnds ∷ gs) d e = heard-signalled gs (ceased d) e
-  heard-signalled (Locked ∷ gs) d e = heard-signalled gs d e
-  heard-signalled (Align1 ∷ gs) d e = heard-signalled gs d e
-
   -- what is detected stays detected
   pub signalled_stays : (t j : ℕ) → signalled (ears h t) ≡ true → signalled (ears h (t + j)) ≡ true
-  signalled_stays t zero e = rw (add-zero t) e
-  signalled_stays t (suc j) e = rw (add-suc t j)
-      (ap signalled (ears_suc h (t + j)) ∙ heard-signalled (h (suc (t + j))) (passed (ears h (t + j)))
-      (ap₂ (λ p q. p || q) (passed_same (ears h (t + j))).3 (passed_same (ears h (t + j))).4 ∙ signalled_stays t j e))
+  signalled_stays = ears_keep (λ d. signalled d ≡ true) risen-signalled (λ _ e. e)
+      (λ d e. ap₂ (λ p q. p || q) (passed_same d).3 (passed_same d).4 ∙ e)
 
   -- COMSAS begins, or no signal was detected
   begun_or_unheard : (n : ℕ) → Unheard (9255 + n) ⊎ ((c : ℕ) × ((c < 9255 + n) × Begins c))

@@ -12,13 +12,13 @@ use Rattle.bringup.specs.declared.end.Sign.TheVariants.{Nothing, BurstStarts, Bu
 use Rattle.bringup.specs.declared.end.Activity.{Activity}
 use Rattle.bringup.specs.declared.end.Activity.TheVariants.{Idle, Burst}
 use Rattle.bringup.specs.declared.end.Activity.TheVariants as sends
-use Rattle.bringup.specs.Bringup.{locked_window, aligned_window, closing, later}
+use Rattle.bringup.specs.Bringup.{locked_window, aligned_window, is_awaiting, is_negotiating, settled, closing, later}
 use Rattle.bringup.specs.Rates.{supports, next_rate, previous_rate, past_highest}
 use Rattle.bringup.specs.Asking.{activity}
 use Rattle.bringup.specs.Detection.{passed}
 use Rattle.bringup.specs.declared.detector.Detector.{Detector}
 use Rattle.bringup.specs.declared.end.End.{End}
-use Rattle.agreement.specs.FairLine.{has, is_sign, all_signed}
+use Rattle.agreement.specs.FairLine.{has, is_sign, all_signed, is_over}
 use Rattle.agreement.proofs.Machine.{make, ears, window_all, in_time, window_step, heard, signs_opening, signs_other}
 use Rattle.agreement.proofs.Stages.{state, In, step}
 
@@ -314,24 +314,23 @@ module _ (h : ℕ → List Sign) (s : RateSet) (o : ℕ) (w : Window) (fresh : w
       In h s (o + 328640) Negotiating 0 (Some (fresh_window (next_rate w.rate) false false))
   closes_next l v a p = reopened (next_rate w.rate) false false (simp (open_last 328639, l, v, open_valid_before 328639, a, open_rate 328639, p))
 
--- an end that is ready or failed stays so
-module _ (h : ℕ → List Sign) (s : RateSet) (t : ℕ) (w : Option Window) where
-  -- ready is for good
-  pub ready_stays : (k : ℕ) → In h s t Ready k w → (j : ℕ) → (n : ℕ) × In h s (t + j) Ready n w
-  ready_stays k e zero = (k, rw (add-zero t) e)
-  ready_stays k e (suc j) =
-      let (n, i) = ready_stays k e j in (
-        later n,
-        rw (add-suc t j) (step h s (t + j) Ready Ready n (later n) w w i
-            (signs_other (h (suc (t + j))) s Ready (later n) (passed (ears h (t + j))) w refl refl)),
-      )
+-- an end that is over makes no transition
+over_settled : (p : Phase) (e : End) → is_over p ≡ true → settled p e ≡ e
+over_settled p e over = grind (arith, nat_tests)
 
-  -- failed is for good
-  pub failed_stays : (k : ℕ) → In h s t Failed k w → (j : ℕ) → (n : ℕ) × In h s (t + j) Failed n w
-  failed_stays k e zero = (k, rw (add-zero t) e)
-  failed_stays k e (suc j) =
-      let (n, i) = failed_stays k e j in (
-        later n,
-        rw (add-suc t j) (step h s (t + j) Failed Failed n (later n) w w i
-            (signs_other (h (suc (t + j))) s Failed (later n) (passed (ears h (t + j))) w refl refl)),
-      )
+-- and neither waits nor negotiates
+over_idle : (p : Phase) → is_over p ≡ true → (is_awaiting p ≡ false) × (is_negotiating p ≡ false)
+over_idle p over = (grind (arith, nat_tests), grind (arith, nat_tests))
+
+-- so it is over for good
+pub over_stays : (h : ℕ → List Sign) (s : RateSet) (t : ℕ) (w : Option Window) (p : Phase) → is_over p ≡ true →
+    (k : ℕ) → In h s t p k w → (j : ℕ) → (n : ℕ) × In h s (t + j) p n w
+over_stays h s t w p over k e zero = (k, rw (add-zero t) e)
+over_stays h s t w p over k e (suc j) =
+    let (n, i) = over_stays h s t w p over k e j in
+    let d : Detector = passed (ears h (t + j)) in (
+      later n,
+      rw (add-suc t j) (step h s (t + j) p p n (later n) w w i
+          (ap (all_signed (h (suc (t + j)))) (over_settled p (make s p (later n) d w) over)
+          ∙ signs_other (h (suc (t + j))) s p (later n) d w (over_idle p over).0 (over_idle p over).1)),
+    )
