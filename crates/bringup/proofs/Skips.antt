@@ -6,6 +6,7 @@ use Rattle.bringup.specs.declared.detector.Detector.{Detector}
 use Rattle.bringup.specs.declared.end.Phase.{Phase}
 use Rattle.bringup.specs.declared.end.Phase.TheVariants.{Unstarted, SendingCominit, Awaiting, SendingComsas, Falling, Negotiating, Ready, Failed}
 use Rattle.bringup.specs.declared.rate.Rate.TheVariants.{G1}
+use Rattle.bringup.specs.declared.end.Standing.TheVariants.{AfterInvalid}
 use Rattle.bringup.specs.declared.end.End.{End}
 use Rattle.bringup.specs.Detection.{passed, longer}
 use Rattle.bringup.specs.Bringup.{tick, ticks, settled, aged, later, signalled, awaited, awaited_fall, entered, opened, closed_window}
@@ -104,7 +105,7 @@ nothing_due SendingComsas k e h =
     cond-true (ltb (capped 328640 e.elapsed (suc k)) 23925) (skipped (suc k) e) (awaited_fall (skipped (suc k) e))
     (lt-ltb (capped 328640 e.elapsed (suc k)) 23925 (omega (arith, capped_below 328640 e.elapsed k 23924 h (omega arith))))
 nothing_due Falling k e h =
-    cond-false (rested (suc k) e.detector).fallen (opened G1 false false (skipped (suc k) e))
+    cond-false (rested (suc k) e.detector).fallen (opened G1 AfterInvalid (skipped (suc k) e))
     (cond ((rested (suc k) e.detector).comsas || ltb (capped 328640 e.elapsed (suc k)) 32640) (skipped (suc k) e) (entered Failed (skipped (suc k) e)))
     (rested_fallen (suc k) e.detector ∙ not_fallen)
     ∙ cond-true ((rested (suc k) e.detector).comsas || ltb (capped 328640 e.elapsed (suc k)) 32640) (skipped (suc k) e) (entered Failed (skipped (suc k) e)) in_time

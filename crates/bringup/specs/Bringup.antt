@@ -8,6 +8,8 @@ use Rattle.bringup.specs.declared.rate.RateSet.{RateSet}
 use Rattle.bringup.specs.declared.end.End.{End}
 use Rattle.bringup.specs.declared.end.Phase.{Phase}
 use Rattle.bringup.specs.declared.end.Phase.TheVariants.{Unstarted, SendingCominit, Awaiting, SendingComsas, Falling, Negotiating, Ready, Failed}
+use Rattle.bringup.specs.declared.end.Standing.{Standing}
+use Rattle.bringup.specs.declared.end.Standing.TheVariants.{AfterInvalid, AfterValid, Final}
 use Rattle.bringup.specs.declared.end.Window.{Window}
 use Rattle.bringup.specs.declared.end.Sign.{Sign}
 use Rattle.bringup.specs.declared.end.Sign.TheVariants as sign
@@ -24,13 +26,13 @@ abbrev pub entered : Phase → End → End
 entered p e = record { rates = e.rates; phase = p; elapsed = 0; detector = e.detector; window = e.window }
 
 -- A window opens.
-abbrev pub opened : Rate → Bool → Bool → End → End
-opened r last follows e = record {
+abbrev pub opened : Rate → Standing → End → End
+opened r standing e = record {
   rates = e.rates;
   phase = Negotiating;
   elapsed = 0;
   detector = e.detector;
-  window = Some (record { rate = r; last = last; follows = follows; locked = false; aligned = false });
+  window = Some (record { rate = r; standing = standing; locked = false; aligned = false });
 }
 
 abbrev pub signalled : Detector → Bool
@@ -42,17 +44,19 @@ awaited e = cond (signalled e.detector) (entered SendingComsas e) (entered Await
 
 -- COMSAS is sent: the first window follows as soon as the other's has fallen.
 abbrev pub awaited_fall : End → End
-awaited_fall e = cond e.detector.fallen (opened G1 false false e) (entered Falling e)
+awaited_fall e = cond e.detector.fallen (opened G1 AfterInvalid e) (entered Falling e)
 
 -- What follows a window. After a valid one the next; after an invalid one, if the previous was valid, a final one at that
 -- rate; else failed if this was one above the highest supported rate; else the next. The final one gives ready or failed.
+abbrev pub closing_as : Standing → Window → End → End
+closing_as AfterInvalid w e =
+    cond w.aligned (opened (next_rate w.rate) AfterValid e)
+    (cond (past_highest e.rates w.rate) (entered Failed e) (opened (next_rate w.rate) AfterInvalid e))
+closing_as AfterValid w e = cond w.aligned (opened (next_rate w.rate) AfterValid e) (opened (previous_rate w.rate) Final e)
+closing_as Final w e = entered (cond w.aligned Ready Failed) e
+
 abbrev pub closing : Window → End → End
-closing w e =
-    cond w.last (entered (cond w.aligned Ready Failed) e)
-    (cond w.aligned (opened (next_rate w.rate) false true e)
-    (cond w.follows (opened (previous_rate w.rate) true false e)
-    (cond (past_highest e.rates w.rate) (entered Failed e)
-    (opened (next_rate w.rate) false false e))))
+closing w e = closing_as w.standing w e
 
 -- The latest window closes.
 abbrev pub closed_window : Option Window → End → End
@@ -67,7 +71,7 @@ settled SendingCominit e = cond (nat_lt e.elapsed 9255) e (awaited e)
 settled Awaiting e = cond (signalled e.detector) (entered SendingComsas e) e
 settled SendingComsas e = cond (nat_lt e.elapsed 23925) e (awaited_fall e)
 settled Falling e =
-    cond e.detector.fallen (opened G1 false false e)
+    cond e.detector.fallen (opened G1 AfterInvalid e)
     (cond (e.detector.comsas || nat_lt e.elapsed 32640) e (entered Failed e))
 settled Negotiating e = cond (nat_lt e.elapsed 328640) e (closed_window e.window e)
 settled Ready e = e
@@ -140,10 +144,10 @@ lock_counts w e =
     is_negotiating e.phase && (supports e.rates w.rate && (nat_le 960 e.elapsed && nat_le e.elapsed (960 + 313425)))
 
 abbrev pub locked_window : Window → Window
-locked_window w = record { rate = w.rate; last = w.last; follows = w.follows; locked = true; aligned = w.aligned }
+locked_window w = record { rate = w.rate; standing = w.standing; locked = true; aligned = w.aligned }
 
 abbrev pub aligned_window : Window → Window
-aligned_window w = record { rate = w.rate; last = w.last; follows = w.follows; locked = w.locked; aligned = true }
+aligned_window w = record { rate = w.rate; standing = w.standing; locked = w.locked; aligned = true }
 
 -- A lock in the latest window.
 abbrev pub locked_in : Option Window → End → End

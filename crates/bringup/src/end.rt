@@ -24,13 +24,20 @@ pub enum Phase {
     Failed,
 }
 
-// The latest speed negotiation window: whether it is the final one, whether the one before it was valid, whether a lock
-// counted in it, and whether an ALIGN(1) was noted after that, which makes it valid.
+// Where a window stands in the sequence: first or after an invalid one, after a valid one, or last of all.
+#[derive(Clone, Copy, PartialEq, Eq, Debug)]
+pub enum Standing {
+    AfterInvalid,
+    AfterValid,
+    Final,
+}
+
+// A speed negotiation window: whether a lock counted in it, and whether an ALIGN(1) was noted after that, which makes it
+// valid.
 #[derive(Clone, Copy, PartialEq, Eq, Debug)]
 pub struct Window {
     pub rate: Rate,
-    pub last: bool,
-    pub follows: bool,
+    pub standing: Standing,
     pub locked: bool,
     pub aligned: bool,
 }

@@ -3,7 +3,7 @@ ghost use Rattle.std.specs.Prelude.{◌≡◌, true};
 ghost use Rattle.bringup.specs.Detection.{signal_of};
 ghost use Rattle.bringup.specs.Examples.{in_first_window, sent_after_lock, Examples};
 
-use crate::end::{Activity, End};
+use crate::end::{Activity, End, Standing};
 use crate::rate::{Rate, RateSet};
 use crate::signal::Signal;
 
@@ -27,7 +27,7 @@ fn in_first_window(ticks: u32) -> End
         g2: true,
         g3: true,
     };
-    end.open_window(Rate::G1, false, false);
+    end.open_window(Rate::G1, Standing::AfterInvalid);
     end.elapsed = ticks;
     end
 }

@@ -5,7 +5,7 @@ ghost use Rattle.bringup.specs.Bringup.{entered, opened, awaited, awaited_fall, 
 ghost use Rattle.bringup.specs.Skipping.{skipped, detector_calm, timer, has_run_out, phase_calm};
 
 use crate::detector::{Detector, count_up};
-use crate::end::{End, MOST_TICKS, Phase, Sign, Window};
+use crate::end::{End, MOST_TICKS, Phase, Sign, Standing, Window};
 use crate::rate::{Rate, RateSet};
 use crate::signal::Signal;
 use code::refusal::Refusal;
@@ -129,15 +129,14 @@ impl End {
         self.elapsed = 0;
     }
 
-    pub(crate) fn open_window(&mut self, rate: Rate, last: bool, follows: bool)
-        ensures { self.new ≡ opened rate last follows self.old }
+    pub(crate) fn open_window(&mut self, rate: Rate, standing: Standing)
+        ensures { self.new ≡ opened rate standing self.old }
     {
         self.phase = Phase::Negotiating;
         self.elapsed = 0;
         self.window = Some(Window {
             rate,
-            last,
-            follows,
+            standing,
             locked: false,
             aligned: false,
         });
@@ -159,7 +158,7 @@ impl End {
         ensures { self.new ≡ awaited_fall self.old }
     {
         if self.detector.fallen {
-            self.open_window(Rate::G1, false, false);
+            self.open_window(Rate::G1, Standing::AfterInvalid);
         } else {
             self.enter(Phase::Falling);
         }
@@ -170,20 +169,13 @@ impl End {
     {
         let Some(window) = self.window else { return };
         let rate = window.rate;
-        if window.last {
-            self.enter(if window.aligned {
-                Phase::Ready
-            } else {
-                Phase::Failed
-            });
-        } else if window.aligned {
-            self.open_window(rate.next(), false, true);
-        } else if window.follows {
-            self.open_window(rate.previous(), true, false);
-        } else if self.rates.ends_below(rate) {
-            self.enter(Phase::Failed);
-        } else {
-            self.open_window(rate.next(), false, false);
+        match (window.standing, window.aligned) {
+            (Standing::Final, true) => self.enter(Phase::Ready),
+            (Standing::Final, false) => self.enter(Phase::Failed),
+            (_, true) => self.open_window(rate.next(), Standing::AfterValid),
+            (Standing::AfterValid, false) => self.open_window(rate.previous(), Standing::Final),
+            (_, false) if self.rates.ends_below(rate) => self.enter(Phase::Failed),
+            (_, false) => self.open_window(rate.next(), Standing::AfterInvalid),
         }
     }
 
@@ -215,7 +207,10 @@ impl End {
             Phase::SendingCominit if self.is_over() => self.after_cominit(),
             Phase::Awaiting if self.detector.has_detected() => self.enter(Phase::SendingComsas),
             Phase::SendingComsas if self.is_over() => self.after_comsas(),
-            Phase::Falling if self.detector.fallen => self.open_window(Rate::G1, false, false),
+            Phase::Falling if self.detector.fallen => self.open_window(
+                Rate::G1,
+                Standing::AfterInvalid,
+            ),
             Phase::Falling if self.is_over() => self.enter(Phase::Failed),
             Phase::Negotiating if self.is_over() => self.close_window(),
             _ => {}
