@@ -1,17 +1,15 @@
 -- On a fair line both ends come to one outcome.
 use Rattle.std.proofs.Common.{◌≡◌, ℕ, ◌+◌, ◌-◌, ◌*◌, ◌≤◌, max, true, false, ◌⊎◌, ap, inl, inr, arith}
-use Rattle.std.proofs.lemmas.Bool.{false≢true, cases_lt, or_right, or_left, and_parts}
-use Rattle.bringup.specs.declared.rate.Rate.{Rate}
-use Rattle.bringup.specs.declared.rate.RateSet.{RateSet}
-use Rattle.bringup.specs.declared.rate.Rate.TheVariants.{NoRate, G1, G2, G3, G4}
+use Rattle.std.proofs.lemmas.Bool.{false≢true, cases_lt, or_right, or_left}
+use Rattle.bringup.specs.declared.rate.Rate.TheVariants.{G1}
 use Rattle.bringup.specs.Bringup.{signalled}
-use Rattle.bringup.specs.Rates.{supports, rate_number}
 use Rattle.agreement.specs.FairLine.{Life, Hears, Reaches, Agreement, LivedFor, age, signs_at, Over, over, BothReady, BothFailed}
 use Rattle.agreement.proofs.Machine.{ears}
 use Rattle.agreement.proofs.Stages.{over-begun, begins_by, signalled_stays}
 use Rattle.agreement.proofs.Line.{detected_since, hears_cominit, hears_comsas}
 use Rattle.agreement.proofs.Meeting.{Starts, Opened, over-opened, opens_first}
 use Rattle.agreement.proofs.Windows.{fresh_window}
+use Rattle.agreement.proofs.RateOrder.{at_least_one}
 use Rattle.agreement.proofs.Settle.{Joint, Result, Hope, settle}
 
 -- signalled at t, an end begins COMSAS by t or by the end of its COMINIT
@@ -62,14 +60,6 @@ module _ (delay : ℕ) (short : delay ≤ 7000) (x y : Life) (fx : Hears delay x
       let (c, p) = earlier_at (959 + y.born + delay - x.born) (omega arith) in
       meets_after c p.1 p.0
 
--- a supported rate has a number from 1 on
-supported_positive : (s : RateSet) (r : Rate) → supports s r ≡ true → 1 ≤ rate_number r
-supported_positive s NoRate e = absurd (false≢true e)
-supported_positive s G1 e = omega arith
-supported_positive s G2 e = omega arith
-supported_positive s G3 e = omega arith
-supported_positive s G4 e = omega arith
-
 module _ (delay : ℕ) (short : delay ≤ 7000) (a b : Life) (fa : Hears delay a b) (fb : Hears delay b a) where
   -- from both COMSAS to the outcome
   module _ (ca cb : ℕ) (ba : Starts a ca) (bb : Starts b cb) (sa : ca + 23925 ≤ age a.notes) (sb : cb + 23925 ≤ age b.notes) where
@@ -109,7 +99,7 @@ module _ (delay : ℕ) (short : delay ≤ 7000) (a b : Life) (fa : Hears delay a
     outcome la lb over-a over-b =
         let (oa, pa) = opens_first delay short a b fa fb ca cb ba bb sa sb ta tb ra rb la in
         let (ob, pb) = opens_first delay short b a fb fa cb ca bb ba sb sa tb ta rb ra lb in
-        settle delay short a b fa fb 3 G1 false oa ob (joint oa ob pa pb) (omega arith) (omega arith) (λ _. (tt, tt))
+        settle delay short a b fa fb 3 G1 false oa ob (joint oa ob pa pb) (omega arith) (λ e. absurd (false≢true e)) (λ _. (tt, tt))
         (pa.reached, over-a oa pa) (pb.reached, over-b ob pb)
 
   -- ends that are over have lived long enough for that
@@ -154,7 +144,7 @@ module _ (delay : ℕ) (short : delay ≤ 7000) (a b : Life) (fa : Hears delay a
       (la, lb),
       (
         (λ e. absurd (false≢true e)),
-        λ _. (r, (sh, supported_positive a.rates r (and_parts (supports a.rates r) (supports b.rates r) sh).0)),
+        λ _. (r, (sh, at_least_one r)),
       ),
     );
   }

@@ -1,14 +1,12 @@
 -- From lists of calls to lives.
 use Rattle.std.proofs.Common.{◌≡◌, ℕ, zero, suc, ◌+◌, ◌-◌, ◌<◌, Bool, true, false, cond, not, ◌&&◌, ◌||◌, eqb, ltb, ◌⊎◌, List, [], ◌∷◌, ◌++◌, sym, refl, ap, ◌∙◌, subst, ap₂, inl, inr, add-zero, add-suc, arith}
-use Rattle.std.proofs.lemmas.Bool.{cond-true, cond-false, lt-ltb, le-ltb, eq-eqb, ne_eqb, cases_Bool, both_ways, true≢false}
+use Rattle.std.proofs.lemmas.Bool.{cond-true, cond-false, le-ltb, ne_eqb, cases_Bool, both_ways}
 use Rattle.std.proofs.lemmas.Bool.Decides.{nat_tests}
 use Rattle.code.specs.Refusals.{plain}
 use Rattle.bringup.specs.declared.end.Phase.{Phase}
-use Rattle.bringup.specs.declared.end.Phase.TheVariants.{Unstarted, SendingCominit, Awaiting, SendingComsas, Falling, Negotiating, Ready, Failed}
 use Rattle.bringup.specs.declared.rate.RateSet.{RateSet}
 use Rattle.bringup.specs.declared.end.End.{End}
 use Rattle.bringup.specs.declared.end.Sign.{Sign}
-use Rattle.bringup.specs.declared.end.Sign.TheVariants.{Nothing, BurstStarts, BurstEnds, Locked, Align1}
 use Rattle.bringup.specs.Bringup.{Called, declined, done, is_unstarted, signed, tick, ticks, settled, aged, begun, sign_at}
 use Rattle.bringup.specs.Rates.{rate_set}
 use Rattle.agreement.specs.FairLine.{started, noted, Note, age, signs_at, all_signed, after, present, here, there, Call, start, note, Course, start_one, note_one, note_accepted, Courses, called, all_called, both_unused, life_of, FairLinesAgree}
@@ -45,12 +43,11 @@ module _ (n : Note) (ns : List Note) (e : End) where
 
   -- before its tick there are none
   h_before : (t : ℕ) → t < n.ticks → h t ≡ []
-  h_before t lt = cond-true (ltb t n.ticks) [] (cond (eqb t n.ticks) (n.sign ∷ signs_at ns 0) (signs_at ns (t - n.ticks))) (lt-ltb t n.ticks lt)
+  h_before t lt = grind (arith, nat_tests)
 
   -- at its tick it comes first
   h_at : h n.ticks ≡ n.sign ∷ signs_at ns 0
-  h_at = cond-false (ltb n.ticks n.ticks) [] (cond (eqb n.ticks n.ticks) (n.sign ∷ signs_at ns 0) (signs_at ns (n.ticks - n.ticks))) (le-ltb n.ticks n.ticks (omega arith))
-      ∙ cond-true (eqb n.ticks n.ticks) (n.sign ∷ signs_at ns 0) (signs_at ns (n.ticks - n.ticks)) (eq-eqb n.ticks n.ticks refl)
+  h_at = grind (arith, nat_tests)
 
   -- later the others follow
   h_after : (j : ℕ) → h (suc (n.ticks + j)) ≡ signs_at ns (suc j)
@@ -90,25 +87,11 @@ pub record Keeps (e f : End) : Type 0 where
 
 -- transitions keep the rate set
 tick-rates : (p : Phase) (e : End) → (settled p e).rates ≡ e.rates
-tick-rates Unstarted e = refl
-tick-rates SendingCominit e = grind (arith, nat_tests)
-tick-rates Awaiting e = grind (arith, nat_tests)
-tick-rates SendingComsas e = grind (arith, nat_tests)
-tick-rates Falling e = grind (arith, nat_tests)
-tick-rates Negotiating e = grind (arith, nat_tests)
-tick-rates Ready e = refl
-tick-rates Failed e = refl
+tick-rates p e = grind (arith, nat_tests)
 
 -- and no end becomes unstarted again
 tick-started : (p : Phase) (e : End) → e.phase ≡ p → is_unstarted p ≡ false → is_unstarted (settled p e).phase ≡ false
-tick-started Unstarted e q h = absurd (true≢false h)
-tick-started SendingCominit e q h = grind (arith, nat_tests)
-tick-started Awaiting e q h = grind (arith, nat_tests)
-tick-started SendingComsas e q h = grind (arith, nat_tests)
-tick-started Falling e q h = grind (arith, nat_tests)
-tick-started Negotiating e q h = grind (arith, nat_tests)
-tick-started Ready e q h = ap is_unstarted q
-tick-started Failed e q h = ap is_unstarted q
+tick-started p e q h = grind (arith, nat_tests)
 
 -- so do ticks
 keeps_ticks : (k : ℕ) (e : End) → Keeps e (ticks k e)
@@ -122,11 +105,7 @@ keeps_ticks (suc k) e =
 
 -- and signs
 keeps_sign : (g : Sign) (e : End) → Keeps e (signed g e)
-keeps_sign Nothing e = record { rates = refl; still = λ h. h }
-keeps_sign BurstStarts e = record { rates = grind (arith, nat_tests); still = λ h. grind (arith, nat_tests) }
-keeps_sign BurstEnds e = record { rates = refl; still = λ h. h }
-keeps_sign Locked e = record { rates = grind (arith, nat_tests); still = λ h. grind (arith, nat_tests) }
-keeps_sign Align1 e = record { rates = grind (arith, nat_tests); still = λ h. grind (arith, nat_tests) }
+keeps_sign g e = record { rates = grind (arith, nat_tests); still = λ h. grind (arith, nat_tests) }
 
 -- a course is what its accepted calls make of it
 pub record Running (c : Course) (s : RateSet) : Type 0 where
@@ -150,29 +129,23 @@ left x = x.end
 
 -- a refused rate set leaves the end
 start_outside : (n : ℕ) (e : End) → outside n ≡ true → started n e ≡ e
-start_outside n e o = ap left (cond-true (outside n) (declined (plain 8) e) (cond (is_unstarted e.phase) (done (begun (rate_set n))) (declined (plain 9) e)) o)
+start_outside n e o = grind (arith, nat_tests)
 
 -- any other starts it unless it was started
 start_inside : (n : ℕ) (e : End) → outside n ≡ false → started n e ≡ left (cond (is_unstarted e.phase) (done (begun (rate_set n))) (declined (plain 9) e))
-start_inside n e o = ap left (cond-false (outside n) (declined (plain 8) e) (cond (is_unstarted e.phase) (done (begun (rate_set n))) (declined (plain 9) e)) o)
+start_inside n e o = grind (arith, nat_tests)
 
 -- a second start leaves the end
 start_again : (n : ℕ) (e : End) → is_unstarted e.phase ≡ false → started n e ≡ e
-start_again n e u = elim (cases_Bool (outside n)) [
-  | inl o ↦ start_outside n e o
-  | inr o ↦ start_inside n e o ∙ ap left (cond-false (is_unstarted e.phase) (done (begun (rate_set n))) (declined (plain 9) e) u)
-]
+start_again n e u = grind (arith, nat_tests)
 
 -- the first one begins its life
 start_first : (n : ℕ) (e : End) → outside n ≡ false → is_unstarted e.phase ≡ true → started n e ≡ begun (rate_set n)
-start_first n e o u = start_inside n e o ∙ ap left (cond-true (is_unstarted e.phase) (done (begun (rate_set n))) (declined (plain 9) e) u)
+start_first n e o u = grind (arith, nat_tests)
 
 -- a note, by its three tests
 note_by : (a b u : Bool) (e f : End) → left (cond a (declined (plain 10) e) (cond b (declined (plain 11) e) (cond u (declined (plain 12) e) (done f)))) ≡ cond (not a && (not b && not u)) f e
-note_by true b u e f = refl
-note_by false true u e f = refl
-note_by false false true e f = refl
-note_by false false false e f = refl
+note_by a b u e f = grind (arith, nat_tests)
 
 -- an accepted note changes the end, a declined one leaves it
 note_leaves : (k g : ℕ) (e : End) → noted k g e ≡ cond (note_accepted k g e) (signed (sign_at g) (ticks k e)) e
@@ -221,10 +194,7 @@ note_tracked_by k g c true a u (inr p) =
 
 -- an accepted note is one of a started end
 accepted-started : (a b u : Bool) → (not a && (not b && not u)) ≡ true → u ≡ false
-accepted-started true b u e = absurd (both_ways false refl e)
-accepted-started false true u e = absurd (both_ways false refl e)
-accepted-started false false true e = absurd (both_ways false refl e)
-accepted-started false false false e = refl
+accepted-started a b u e = grind (arith, nat_tests)
 
 note_tracked : (k g : ℕ) (c : Course) → Tracked c → Tracked (note_one k g c)
 note_tracked k g c t =

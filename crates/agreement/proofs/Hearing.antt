@@ -1,13 +1,13 @@
 -- What an end's detector makes of the other's bursts.
-use Rattle.std.proofs.Common.{◌≡◌, ℕ, zero, suc, ◌+◌, ◌*◌, ◌<◌, ◌≤◌, Bool, true, false, ltb, leb, List, [], ◌∷◌, Some, None, Option, sym, refl, ap, ◌∙◌, add-zero, add-suc, suc-mul, zero-add, zero-mul, add-one, arith}
-use Rattle.std.proofs.lemmas.Bool.{cond-true, lt-ltb, lt-leb, le-leb, and_right, true≢false, false≢true}
+use Rattle.std.proofs.Common.{◌≡◌, ℕ, zero, suc, ◌+◌, ◌*◌, ◌<◌, ◌≤◌, Bool, true, false, leb, List, [], ◌∷◌, Some, Option, sym, refl, ap, ◌∙◌, add-zero, add-suc, suc-mul, zero-add, zero-mul, arith}
+use Rattle.std.proofs.lemmas.Bool.{true≢false, false≢true}
 use Rattle.std.proofs.lemmas.Bool.Decides.{nat_tests}
 use Rattle.bringup.specs.declared.detector.Detector.{Detector}
 use Rattle.bringup.specs.declared.signal.Signal.{Signal}
-use Rattle.bringup.specs.declared.signal.Signal.TheVariants.{Comwake, Cominit, Comsas}
+use Rattle.bringup.specs.declared.signal.Signal.TheVariants.{Cominit, Comsas}
 use Rattle.bringup.specs.declared.end.Sign.{Sign}
 use Rattle.bringup.specs.declared.end.Sign.TheVariants.{Nothing, BurstStarts, BurstEnds, Locked, Align1}
-use Rattle.bringup.specs.Detection.{passed, risen, ceased, more, longer, signal_of, alike_after, closed}
+use Rattle.bringup.specs.Detection.{passed, risen, ceased, more, signal_of, alike_after, closed}
 use Rattle.agreement.specs.FairLine.{has}
 use Rattle.agreement.proofs.Machine.{heard}
 
@@ -26,7 +26,7 @@ risen-burst d = grind (arith, nat_tests)
 
 -- a start within a burst is nothing
 pub risen-in_burst : (d : Detector) → d.burst ≡ true → risen d ≡ d
-risen-in_burst d e = cond-true d.burst d (closed (signal_of d.idle) (alike_after (signal_of d.idle) d.signal d.alike) d) e
+risen-in_burst d e = rw e
 
 -- in a burst nothing but its end changes anything
 pub heard-in_burst : (gs : List Sign) (d : Detector) → d.burst ≡ true → has BurstEnds gs ≡ false → heard gs d ≡ d
@@ -95,10 +95,7 @@ relay_step b d e j x y p q r =
 
 -- flags stay
 pub hear_fallen : (x y : Bool) (d : Detector) → (hear x y d).fallen ≡ d.fallen
-hear_fallen false false d = refl
-hear_fallen false true d = grind (arith, nat_tests)
-hear_fallen true false d = refl
-hear_fallen true true d = refl
+hear_fallen x y d = grind (arith, nat_tests)
 
 -- bursts seen from a later tick on
 abbrev pub shift : ℕ → (ℕ → Bool) → ℕ → Bool
@@ -130,9 +127,7 @@ passed-burst d e = rw e
 -- in an idle a tick lengthens it
 pub passed_idle : (n : ℕ) (d : Detector) → d.burst ≡ false → suc n < 4725 → passed (idled n d) ≡ idled (suc n) d
 passed_idle n d e lt =
-    let a : longer n ≡ suc n = cond-true (ltb n 4725) (n + 1) n (lt-ltb n 4725 (omega arith)) ∙ add-one n in
-    let c : leb 4725 (suc n) ≡ false = lt-leb 4725 (suc n) lt in
-    rw (e, a, c, and_right d.comsas false refl)
+    grind (arith, nat_tests)
 
 -- a burst that goes on leaves the detector as it is
 pub stay_burst : (b : ℕ → Bool) (d : Detector) → d.burst ≡ true → (k : ℕ) → ((i : ℕ) → i ≤ k → b i ≡ true) → relay b d k ≡ d
@@ -190,35 +185,24 @@ periods_fallen m (suc k) d = periods_fallen m k d
 pub more_grows : (a n : ℕ) → a ≤ n → a < 4 → suc a ≤ more n
 more_grows a n le lt = grind (arith, nat_tests)
 
--- four periods detect the signal
-pub comsas_alike : (k : Option Signal) (n : ℕ) → 1 ≤ alike_after (Some Comsas) k n
-comsas_alike None n = omega arith
-comsas_alike (Some Comwake) n = omega arith
-comsas_alike (Some Cominit) n = omega arith
-comsas_alike (Some Comsas) n = grind (arith, nat_tests)
-
--- an idle of COMINIT is at least the first of its row
-pub cominit_alike : (k : Option Signal) (n : ℕ) → 1 ≤ alike_after (Some Cominit) k n
-cominit_alike None n = omega arith
-cominit_alike (Some Comwake) n = omega arith
-cominit_alike (Some Cominit) n = grind (arith, nat_tests)
-cominit_alike (Some Comsas) n = omega arith
+-- an idle of a signal is at least the first of its row
+some_alike : (s : Signal) (before : Option Signal) (n : ℕ) → 1 ≤ alike_after (Some s) before n
+some_alike s before n = grind (arith, nat_tests)
 
 -- three more after one are four
 four : (n : ℕ) → 1 ≤ n → leb 4 (more (more (more n))) ≡ true
-four n h = le-leb 4 (more (more (more n)))
-    (more_grows 3 (more (more n)) (more_grows 2 (more n) (more_grows 1 n h (omega arith)) (omega arith)) (omega arith))
+four n h = grind (arith, nat_tests)
 
 -- four periods of COMSAS detect it, whatever came before
 pub comsas_detected : (d : Detector) → (periods 2879 4 d).comsas ≡ true
 unfolding periods
-comsas_detected d = let f : leb 4 (more (more (more (alike_after (Some Comsas) d.signal d.alike)))) ≡ true = four (alike_after (Some Comsas) d.signal d.alike) (comsas_alike d.signal d.alike) in
+comsas_detected d = let f : leb 4 (more (more (more (alike_after (Some Comsas) d.signal d.alike)))) ≡ true = four (alike_after (Some Comsas) d.signal d.alike) (some_alike Comsas d.signal d.alike) in
     rw f
 
 -- four periods of COMINIT detect it, whatever came before
 pub cominit_detected : (d : Detector) → (periods 959 4 d).cominit ≡ true
 unfolding periods
-cominit_detected d = let f : leb 4 (more (more (more (alike_after (Some Cominit) d.signal d.alike)))) ≡ true = four (alike_after (Some Cominit) d.signal d.alike) (cominit_alike d.signal d.alike) in
+cominit_detected d = let f : leb 4 (more (more (more (alike_after (Some Cominit) d.signal d.alike)))) ≡ true = four (alike_after (Some Cominit) d.signal d.alike) (some_alike Cominit d.signal d.alike) in
     rw f
 
 -- k periods of bursts of n + 1 ticks and idles of m + 1, from the start of a burst to that of another

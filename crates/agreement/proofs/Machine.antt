@@ -1,10 +1,10 @@
 -- How one end goes from tick to tick, phase by phase.
-use Rattle.std.proofs.Common.{◌≡◌, ℕ, zero, suc, ◌+◌, ◌<◌, Bool, true, false, cond, ◌&&◌, ◌||◌, ltb, leb, List, [], ◌∷◌, sym, refl, ap, ◌∙◌, add-one, arith}
-use Rattle.std.proofs.lemmas.Bool.{cond-true, cond-false, cond_both, lt-ltb, and_right}
+use Rattle.std.proofs.Common.{◌≡◌, ℕ, zero, suc, ◌<◌, Bool, true, false, cond, ◌&&◌, ◌||◌, ltb, leb, List, [], ◌∷◌, Some, None, Option, sym, refl, ap, ◌∙◌, arith}
+use Rattle.std.proofs.lemmas.Bool.{cond-false, lt-ltb, and_right}
 use Rattle.std.proofs.lemmas.Bool.Decides.{nat_tests}
 use Rattle.bringup.specs.declared.detector.Detector.{Detector}
 use Rattle.bringup.specs.declared.end.Phase.{Phase}
-use Rattle.bringup.specs.declared.end.Phase.TheVariants.{SendingCominit, Awaiting, SendingComsas, Falling, Negotiating, Failed}
+use Rattle.bringup.specs.declared.end.Phase.TheVariants.{SendingCominit, Awaiting, SendingComsas, Falling, Negotiating}
 use Rattle.bringup.specs.declared.rate.Rate.TheVariants.{G1}
 use Rattle.bringup.specs.declared.rate.RateSet.{RateSet}
 use Rattle.bringup.specs.declared.end.Window.{Window}
@@ -12,13 +12,13 @@ use Rattle.bringup.specs.declared.end.End.{End}
 use Rattle.bringup.specs.declared.end.Sign.{Sign}
 use Rattle.bringup.specs.declared.end.Sign.TheVariants.{Nothing, BurstStarts, BurstEnds, Locked, Align1}
 use Rattle.bringup.specs.Detection.{passed, risen, ceased}
-use Rattle.bringup.specs.Bringup.{is_awaiting, is_negotiating, signed, tick, later, signalled, closed_window, locked_window, aligned_window}
+use Rattle.bringup.specs.Bringup.{is_awaiting, is_negotiating, signed, tick, later, signalled, closing, locked_window, aligned_window}
 use Rattle.bringup.specs.Rates.{supports}
 use Rattle.bringup.specs.Detection.{deaf}
 use Rattle.agreement.specs.FairLine.{all_signed}
 
 -- an end by its parts
-abbrev pub make : RateSet → Phase → ℕ → Detector → Window → End
+abbrev pub make : RateSet → Phase → ℕ → Detector → Option Window → End
 make s p k d w = record { rates = s; phase = p; elapsed = k; detector = d; window = w }
 
 -- what a sign does to the detector
@@ -49,27 +49,39 @@ pub ears_suc : (h : ℕ → List Sign) (t : ℕ) → ears h (suc t) ≡ heard (h
 unfolding ears
 ears_suc h t = refl
 
+-- outside windows a lock does nothing
+lock_outside : (s : RateSet) (p : Phase) (k : ℕ) (d : Detector) (w : Option Window) → is_negotiating p ≡ false →
+    signed Locked (make s p k d w) ≡ make s p k d w
+lock_outside s p k d None n = refl
+lock_outside s p k d (Some w) n = rw n
+
+-- and neither does an ALIGN(1)
+align_outside : (s : RateSet) (p : Phase) (k : ℕ) (d : Detector) (w : Option Window) → is_negotiating p ≡ false →
+    signed Align1 (make s p k d w) ≡ make s p k d w
+align_outside s p k d None n = refl
+align_outside s p k d (Some w) n = rw n
+
 -- signs reach the detector alone, but where the end waits or negotiates
-pub sign_other : (g : Sign) (s : RateSet) (p : Phase) (k : ℕ) (d : Detector) (w : Window) →
+pub sign_other : (g : Sign) (s : RateSet) (p : Phase) (k : ℕ) (d : Detector) (w : Option Window) →
     is_awaiting p ≡ false → is_negotiating p ≡ false → signed g (make s p k d w) ≡ make s p k (heard_one g d) w
 sign_other Nothing s p k d w a n = refl
 sign_other BurstStarts s p k d w a n = rw a
 sign_other BurstEnds s p k d w a n = refl
-sign_other Locked s p k d w a n = rw n
-sign_other Align1 s p k d w a n = rw n
+sign_other Locked s p k d w a n = lock_outside s p k d w n
+sign_other Align1 s p k d w a n = align_outside s p k d w n
 
 -- where a phase has no place for signs, they reach the detector alone
-pub signs_other : (gs : List Sign) (s : RateSet) (p : Phase) (k : ℕ) (d : Detector) (w : Window) →
+pub signs_other : (gs : List Sign) (s : RateSet) (p : Phase) (k : ℕ) (d : Detector) (w : Option Window) →
     is_awaiting p ≡ false → is_negotiating p ≡ false → all_signed gs (make s p k d w) ≡ make s p k (heard gs d) w
 signs_other [] s p k d w a n = refl
 signs_other (g ∷ gs) s p k d w a n = ap (all_signed gs) (sign_other g s p k d w a n) ∙ signs_other gs s p k (heard_one g d) w a n
 
 -- within the longest phase every tick is counted
 pub later_below : (k : ℕ) → k < 328640 → later k ≡ suc k
-later_below k h = cond-true (ltb k 328640) (k + 1) k (lt-ltb k 328640 h) ∙ add-one k
+later_below k h = grind (arith, nat_tests)
 
 -- COMINIT goes on
-pub cominit_step : (gs : List Sign) (s : RateSet) (k : ℕ) (d : Detector) (w : Window) → suc k < 9255 →
+pub cominit_step : (gs : List Sign) (s : RateSet) (k : ℕ) (d : Detector) (w : Option Window) → suc k < 9255 →
     all_signed gs (tick (make s SendingCominit k d w)) ≡ make s SendingCominit (suc k) (heard gs (passed d)) w
 cominit_step gs s k d w h =
     let a : later k ≡ suc k = later_below k (omega arith) in
@@ -89,19 +101,16 @@ pub risen-signalled : (d : Detector) → signalled d ≡ true → signalled (ris
 risen-signalled d h = grind (arith, nat_tests)
 
 -- COMINIT is sent and the end waits for a signal; COMSAS is begun as soon as one is detected
-abbrev pub waiting : RateSet → ℕ → Detector → Window → End
+abbrev pub waiting : RateSet → ℕ → Detector → Option Window → End
 waiting s k d w = cond (signalled d) (make s SendingComsas 0 d w) (make s Awaiting k d w)
 
 -- one sign at an end that waits: its detector hears it, and COMSAS follows if that detects a signal
-pub sign-waiting : (g : Sign) (s : RateSet) (k : ℕ) (d : Detector) (w : Window) →
+pub sign-waiting : (g : Sign) (s : RateSet) (k : ℕ) (d : Detector) (w : Option Window) →
     signed g (waiting s k d w) ≡ waiting s k (heard_one g d) w
 sign-waiting g s k d w = go (signalled d) refl
   where
     go : (b : Bool) → signalled d ≡ b → signed g (waiting s k d w) ≡ waiting s k (heard_one g d) w
-    go true e =
-        ap (signed g) (cond-true (signalled d) (make s SendingComsas 0 d w) (make s Awaiting k d w) e)
-        ∙ sign_other g s SendingComsas 0 d w refl refl
-        ∙ sym (cond-true (signalled (heard_one g d)) (make s SendingComsas 0 (heard_one g d) w) (make s Awaiting k (heard_one g d) w) (kept g))
+    go true e = rw (e, kept g) (sign_other g s SendingComsas 0 d w refl refl)
       where
         kept : (g : Sign) → signalled (heard_one g d) ≡ true
         kept Nothing = e
@@ -109,34 +118,33 @@ sign-waiting g s k d w = go (signalled d) refl
         kept BurstEnds = e
         kept Locked = e
         kept Align1 = e
-    go false e =
-        ap (signed g) (cond-false (signalled d) (make s SendingComsas 0 d w) (make s Awaiting k d w) e) ∙ one g
+    go false e = rw e (one g)
       where
         one : (g : Sign) → signed g (make s Awaiting k d w) ≡ waiting s k (heard_one g d) w
         one Nothing = sym (cond-false (signalled d) (make s SendingComsas 0 d w) (make s Awaiting k d w) e)
         one BurstStarts = refl
         one BurstEnds = sym (cond-false (signalled d) (make s SendingComsas 0 (ceased d) w) (make s Awaiting k (ceased d) w) e)
-        one Locked = sym (cond-false (signalled d) (make s SendingComsas 0 d w) (make s Awaiting k d w) e)
-        one Align1 = sym (cond-false (signalled d) (make s SendingComsas 0 d w) (make s Awaiting k d w) e)
+        one Locked = lock_outside s Awaiting k d w refl ∙ sym (cond-false (signalled d) (make s SendingComsas 0 d w) (make s Awaiting k d w) e)
+        one Align1 = align_outside s Awaiting k d w refl ∙ sym (cond-false (signalled d) (make s SendingComsas 0 d w) (make s Awaiting k d w) e)
 
 -- the same of all signs of a tick, one after the other
-pub signs_waiting : (gs : List Sign) (s : RateSet) (k : ℕ) (d : Detector) (w : Window) →
+pub signs_waiting : (gs : List Sign) (s : RateSet) (k : ℕ) (d : Detector) (w : Option Window) →
     all_signed gs (waiting s k d w) ≡ waiting s k (heard gs d) w
 signs_waiting [] s k d w = refl
 signs_waiting (g ∷ gs) s k d w = ap (all_signed gs) (sign-waiting g s k d w) ∙ signs_waiting gs s k (heard_one g d) w
 
 -- the last tick of COMINIT leads into waiting
-pub cominit_end : (gs : List Sign) (s : RateSet) (d : Detector) (w : Window) →
+pub cominit_end : (gs : List Sign) (s : RateSet) (d : Detector) (w : Option Window) →
     all_signed gs (tick (make s SendingCominit 9254 d w)) ≡ waiting s 0 (heard gs (passed d)) w
 cominit_end gs s d w = signs_waiting gs s 0 (passed d) w
 
 -- a tick of waiting is waiting with the detector a tick further
-pub waiting_step : (gs : List Sign) (s : RateSet) (k : ℕ) (d : Detector) (w : Window) →
+pub waiting_step : (gs : List Sign) (s : RateSet) (k : ℕ) (d : Detector) (w : Option Window) →
     all_signed gs (tick (make s Awaiting k d w)) ≡ waiting s (later k) (heard gs (passed d)) w
 waiting_step gs s k d w = signs_waiting gs s (later k) (passed d) w
 
 -- before its end COMSAS goes on
-pub comsas_step : (gs : List Sign) (s : RateSet) (k : ℕ) (d : Detector) (w : Window) → suc k < 23925 →
+pub comsas_step : (gs : List Sign) (s : RateSet) (k : ℕ) (d : Detector) (w : Option Window) → suc k < 23925 →
     all_signed gs (tick (make s SendingComsas k d w)) ≡ make s SendingComsas (suc k) (heard gs (passed d)) w
 comsas_step gs s k d w h =
     let a : later k ≡ suc k = later_below k (omega arith) in
@@ -148,22 +156,17 @@ abbrev pub first_window : Window
 first_window = record { rate = G1; last = false; follows = false; locked = false; aligned = false }
 
 -- COMSAS ends; without a fall the end waits for it
-pub comsas_end : (gs : List Sign) (s : RateSet) (d : Detector) (w : Window) → (passed d).fallen ≡ false →
+pub comsas_end : (gs : List Sign) (s : RateSet) (d : Detector) (w : Option Window) → (passed d).fallen ≡ false →
     all_signed gs (tick (make s SendingComsas 23924 d w)) ≡ make s Falling 0 (heard gs (passed d)) w
 comsas_end gs s d w f =
-    ap (all_signed gs) (cond-false (passed d).fallen (make s Negotiating 0 (passed d) first_window) (make s Falling 0 (passed d) w) f)
-    ∙ signs_other gs s Falling 0 (passed d) w refl refl
+    rw f (signs_other gs s Falling 0 (passed d) w refl refl)
 
 -- while nothing has fallen, and it is detected or time is left, the end waits on
-pub falling_step : (gs : List Sign) (s : RateSet) (k : ℕ) (d : Detector) (w : Window) → (passed d).fallen ≡ false →
+pub falling_step : (gs : List Sign) (s : RateSet) (k : ℕ) (d : Detector) (w : Option Window) → (passed d).fallen ≡ false →
     ((passed d).comsas || ltb (later k) 32640) ≡ true →
     all_signed gs (tick (make s Falling k d w)) ≡ make s Falling (later k) (heard gs (passed d)) w
 falling_step gs s k d w f g =
-    ap (all_signed gs)
-    (cond-false (passed d).fallen (make s Negotiating 0 (passed d) first_window)
-    (cond ((passed d).comsas || ltb (later k) 32640) (make s Falling (later k) (passed d) w) (make s Failed 0 (passed d) w)) f
-    ∙ cond-true ((passed d).comsas || ltb (later k) 32640) (make s Falling (later k) (passed d) w) (make s Failed 0 (passed d) w) g)
-    ∙ signs_other gs s Falling (later k) (passed d) w refl refl
+    rw (f, g) (signs_other gs s Falling (later k) (passed d) w refl refl)
 
 -- a window's signs
 abbrev pub in_time : RateSet → ℕ → Window → Bool
@@ -184,31 +187,23 @@ window_all (g ∷ gs) s k w = window_all gs s k (window_one g s k w)
 
 -- in a window a sign reaches the detector and the window, each by itself
 pub sign_window : (g : Sign) (s : RateSet) (k : ℕ) (d : Detector) (w : Window) →
-    signed g (make s Negotiating k d w) ≡ make s Negotiating k (heard_one g d) (window_one g s k w)
+    signed g (make s Negotiating k d (Some w)) ≡ make s Negotiating k (heard_one g d) (Some (window_one g s k w))
 sign_window Nothing s k d w = refl
 sign_window BurstStarts s k d w = refl
 sign_window BurstEnds s k d w = refl
-sign_window Locked s k d w =
-    cond_both (in_time s k w) (locked_window w) w
-    (λ z. cond (in_time s k w) (make s Negotiating k d (locked_window w)) (make s Negotiating k d w) ≡ make s Negotiating k d z)
-    (λ e. cond-true (in_time s k w) (make s Negotiating k d (locked_window w)) (make s Negotiating k d w) e)
-    (λ e. cond-false (in_time s k w) (make s Negotiating k d (locked_window w)) (make s Negotiating k d w) e)
-sign_window Align1 s k d w =
-    cond_both w.locked (aligned_window w) w
-    (λ z. cond w.locked (make s Negotiating k d (aligned_window w)) (make s Negotiating k d w) ≡ make s Negotiating k d z)
-    (λ e. cond-true w.locked (make s Negotiating k d (aligned_window w)) (make s Negotiating k d w) e)
-    (λ e. cond-false w.locked (make s Negotiating k d (aligned_window w)) (make s Negotiating k d w) e)
+sign_window Locked s k d w = grind (arith, nat_tests)
+sign_window Align1 s k d w = grind (arith, nat_tests)
 
 -- and so do all signs of a tick
 pub signs_window : (gs : List Sign) (s : RateSet) (k : ℕ) (d : Detector) (w : Window) →
-    all_signed gs (make s Negotiating k d w) ≡ make s Negotiating k (heard gs d) (window_all gs s k w)
+    all_signed gs (make s Negotiating k d (Some w)) ≡ make s Negotiating k (heard gs d) (Some (window_all gs s k w))
 signs_window [] s k d w = refl
 signs_window (g ∷ gs) s k d w =
     ap (all_signed gs) (sign_window g s k d w) ∙ signs_window gs s k (heard_one g d) (window_one g s k w)
 
 -- before its end a window goes on, with its signs
 pub window_step : (gs : List Sign) (s : RateSet) (k : ℕ) (d : Detector) (w : Window) → suc k < 328640 →
-    all_signed gs (tick (make s Negotiating k d w)) ≡ make s Negotiating (suc k) (heard gs (passed d)) (window_all gs s (suc k) w)
+    all_signed gs (tick (make s Negotiating k d (Some w))) ≡ make s Negotiating (suc k) (heard gs (passed d)) (Some (window_all gs s (suc k) w))
 window_step gs s k d w h =
     let a : later k ≡ suc k = later_below k (omega arith) in
     let b : ltb (suc k) 328640 ≡ true = lt-ltb (suc k) 328640 h in
@@ -228,26 +223,22 @@ window_opens (g ∷ gs) s w e = ap (window_all gs s 0) (one g) ∙ window_opens 
 
 -- in the tick that opens a window no lock counts, so its signs change nothing of it
 pub signs_opening : (gs : List Sign) (s : RateSet) (d : Detector) (w : Window) → w.locked ≡ false →
-    all_signed gs (make s Negotiating 0 d w) ≡ make s Negotiating 0 (heard gs d) w
-signs_opening gs s d w e = signs_window gs s 0 d w ∙ ap (λ z. make s Negotiating 0 (heard gs d) z) (window_opens gs s w e)
+    all_signed gs (make s Negotiating 0 d (Some w)) ≡ make s Negotiating 0 (heard gs d) (Some w)
+signs_opening gs s d w e = signs_window gs s 0 d w ∙ ap (λ z. make s Negotiating 0 (heard gs d) (Some z)) (window_opens gs s w e)
 
 -- COMSAS ends and the other has fallen: the first window opens
-pub comsas_open : (gs : List Sign) (s : RateSet) (d : Detector) (w : Window) → (passed d).fallen ≡ true →
-    all_signed gs (tick (make s SendingComsas 23924 d w)) ≡ make s Negotiating 0 (heard gs (passed d)) first_window
+pub comsas_open : (gs : List Sign) (s : RateSet) (d : Detector) (w : Option Window) → (passed d).fallen ≡ true →
+    all_signed gs (tick (make s SendingComsas 23924 d w)) ≡ make s Negotiating 0 (heard gs (passed d)) (Some first_window)
 comsas_open gs s d w f =
-    ap (all_signed gs) (cond-true (passed d).fallen (make s Negotiating 0 (passed d) first_window) (make s Falling 0 (passed d) w) f)
-    ∙ signs_opening gs s (passed d) first_window refl
+    rw f (signs_opening gs s (passed d) first_window refl)
 
 -- the other falls while the end waits: the first window opens
-pub falling_open : (gs : List Sign) (s : RateSet) (k : ℕ) (d : Detector) (w : Window) → (passed d).fallen ≡ true →
-    all_signed gs (tick (make s Falling k d w)) ≡ make s Negotiating 0 (heard gs (passed d)) first_window
+pub falling_open : (gs : List Sign) (s : RateSet) (k : ℕ) (d : Detector) (w : Option Window) → (passed d).fallen ≡ true →
+    all_signed gs (tick (make s Falling k d w)) ≡ make s Negotiating 0 (heard gs (passed d)) (Some first_window)
 falling_open gs s k d w f =
-    ap (all_signed gs)
-    (cond-true (passed d).fallen (make s Negotiating 0 (passed d) first_window)
-    (cond ((passed d).comsas || ltb (later k) 32640) (make s Falling (later k) (passed d) w) (make s Failed 0 (passed d) w)) f)
-    ∙ signs_opening gs s (passed d) first_window refl
+    rw f (signs_opening gs s (passed d) first_window refl)
 
 -- the last tick closes the window, and then its signs are heard
 pub window_end : (gs : List Sign) (s : RateSet) (d : Detector) (w : Window) →
-    all_signed gs (tick (make s Negotiating 328639 d w)) ≡ all_signed gs (closed_window (make s Negotiating 328640 (passed d) w))
+    all_signed gs (tick (make s Negotiating 328639 d (Some w))) ≡ all_signed gs (closing w (make s Negotiating 328640 (passed d) (Some w)))
 window_end gs s d w = refl

@@ -1,16 +1,15 @@
 -- Two ends that have sent COMSAS open their first windows together.
-use Rattle.std.proofs.Common.{◌≡◌, ℕ, suc, ◌+◌, ◌-◌, ◌<◌, ◌≤◌, Bool, true, false, ◌⊎◌, List, sym, refl, ap, ◌∙◌, subst, inl, inr, arith}
+use Rattle.std.proofs.Common.{◌≡◌, ℕ, suc, ◌+◌, ◌-◌, ◌<◌, ◌≤◌, Bool, true, false, ◌⊎◌, None, List, sym, refl, ap, ◌∙◌, subst, inl, inr, arith}
+use Rattle.std.proofs.lemmas.Bool.Decides.{nat_tests}
 use Rattle.std.proofs.lemmas.Bool.{both_ways, false≢true, cases_lt, or_right}
 use Rattle.bringup.specs.declared.end.Phase.TheVariants.{Falling}
 use Rattle.bringup.specs.declared.rate.Rate.{Rate}
-use Rattle.bringup.specs.declared.rate.Rate.TheVariants.{NoRate}
 use Rattle.bringup.specs.declared.end.Sign.{Sign}
 use Rattle.bringup.specs.declared.end.Activity.TheVariants.{Idle}
 use Rattle.bringup.specs.declared.end.Activity.TheVariants as sends
 use Rattle.bringup.specs.Detection.{passed}
-use Rattle.bringup.specs.Bringup.{signalled, no_window}
-use Rattle.bringup.specs.Asking.{activity, in_burst, sending}
-use Rattle.bringup.specs.Rates.{rate_number}
+use Rattle.bringup.specs.Bringup.{signalled}
+use Rattle.bringup.specs.Asking.{activity, latest_rate, in_burst, sending}
 use Rattle.agreement.specs.FairLine.{Life, Hears, Reaches, state_at, rate_at, age, signs_at, Over, is_over, OpensWindow}
 use Rattle.agreement.proofs.Machine.{first_window, ears}
 use Rattle.agreement.proofs.Stages.{In, Begins, comsas_begins, comsas_stage, comsas_stays, fallen_stays, falling_stage, opens_at_once, opens_later}
@@ -20,8 +19,7 @@ use Rattle.agreement.proofs.Pair.{At, SilentBefore}
 
 -- a signal is no ALIGN(1)
 not_align1_sending : (b : Bool) → is_align1 (sending b) ≡ false
-not_align1_sending true = refl
-not_align1_sending false = refl
+not_align1_sending b = grind (arith, nat_tests)
 
 -- x begins COMSAS at its tick c
 abbrev pub Starts : Life → ℕ → Type 0
@@ -38,9 +36,9 @@ pub record Opened (x : Life) (c t o : ℕ) : Type 0 where
   pub new : OpensWindow x o
 
 -- the first window's rate is the first that the end tells
-first_new : (x : Life) (v : ℕ) → rate_at x v ≡ NoRate → At x (suc v) first_window → OpensWindow x (suc v)
+first_new : (x : Life) (v : ℕ) → rate_at x v ≡ None → At x (suc v) first_window → OpensWindow x (suc v)
 first_new x v before opens =
-    (v, (refl, λ e. let z : ◌≡◌ {A = ℕ} 0 1 = ap rate_number (sym before ∙ (e ∙ ap (λ q. q.window.rate) opens)) in omega arith))
+    (v, (refl, λ e. let z = sym before ∙ (e ∙ ap (λ q. latest_rate q.window) opens) in cc z))
 
 module _ (delay : ℕ) (short : delay ≤ 7000) (x y : Life) (fx : Hears delay x y) (fy : Hears delay y x) (cx cy : ℕ)
     (bx : Starts x cx) (by : Starts y cy) (sx : cx + 23925 ≤ age x.notes) (sy : cy + 23925 ≤ age y.notes)
@@ -92,7 +90,7 @@ module _ (delay : ℕ) (short : delay ≤ 7000) (x y : Life) (fx : Hears delay x
   ]
 
   -- until then x waits
-  waits : (j : ℕ) → cx + 23925 + j ≤ tx + 23924 → cx + 23925 + j ≤ age x.notes → (k : ℕ) × ((k ≤ j) × In hx x.rates (cx + 23925 + j) Falling k no_window)
+  waits : (j : ℕ) → cx + 23925 + j ≤ tx + 23924 → cx + 23925 + j ≤ age x.notes → (k : ℕ) × ((k ≤ j) × In hx x.rates (cx + 23925 + j) Falling k None)
   waits j le la = falling_stage hx x.rates cx bx j
       (λ i li. not_yet (cx + 23924 + i) (omega arith) (omega arith) (omega arith)) (heard_by j la)
 
@@ -103,7 +101,7 @@ module _ (delay : ℕ) (short : delay ≤ 7000) (x y : Life) (fx : Hears delay x
     | inl l ↦
         (let z : cx + 23925 + (age x.notes - (cx + 23925)) ≡ age x.notes = omega arith in
         let (k, p) = waits (age x.notes - (cx + 23925)) (omega arith) (omega arith) in
-        let i : In hx x.rates (age x.notes) Falling k no_window = subst (λ t. In hx x.rates t Falling k no_window) z p.1 in
+        let i : In hx x.rates (age x.notes) Falling k None = subst (λ t. In hx x.rates t Falling k None) z p.1 in
         absurd (false≢true (ap is_over (sym (ap (λ e. e.phase) i)) ∙ over)))
   ]
 
@@ -113,7 +111,7 @@ module _ (delay : ℕ) (short : delay ≤ 7000) (x y : Life) (fx : Hears delay x
       let z : cx + (u - cx) ≡ u = omega arith in
       let e : activity (state_at x u) ≡ sending (in_burst 2880 (u - cx)) =
       subst (λ t. activity (state_at x t) ≡ sending (in_burst 2880 (u - cx))) z
-      (ap activity (comsas_stage hx x.rates cx no_window (comsas_begins hx x.rates cx bx) (u - cx) (omega arith))) in
+      (ap activity (comsas_stage hx x.rates cx None (comsas_begins hx x.rates cx bx) (u - cx) (omega arith))) in
       false≢true (sym (not_align1_sending (in_burst 2880 (u - cx))) ∙ ap is_align1 (sym e ∙ a))
 
   -- nor while the end waits for the fall
@@ -140,7 +138,7 @@ module _ (delay : ℕ) (short : delay ≤ 7000) (x y : Life) (fx : Hears delay x
             silent = λ r u lt ge a _. comsas_silent u (omega arith) (omega arith) a;
             reached = omega arith;
             new = first_new x (cx + 23924)
-                (ap (λ q. q.window.rate) (comsas_stage hx x.rates cx no_window (comsas_begins hx x.rates cx bx) 23924 (omega arith)))
+                (ap (λ q. latest_rate q.window) (comsas_stage hx x.rates cx None (comsas_begins hx x.rates cx bx) 23924 (omega arith)))
                 (opens_at_once hx x.rates cx bx f);
           },
         ))
@@ -160,7 +158,7 @@ module _ (delay : ℕ) (short : delay ≤ 7000) (x y : Life) (fx : Hears delay x
               | inr g ↦ waiting_silent u g (omega arith) (omega arith) a
             ];
             reached = omega arith;
-            new = first_new x (cx + 23925 + j) (let (k, p) = waits j (omega arith) (omega arith) in ap (λ q. q.window.rate) p.1)
+            new = first_new x (cx + 23925 + j) (let (k, p) = waits j (omega arith) (omega arith) in ap (λ q. latest_rate q.window) p.1)
                 (opens_later hx x.rates cx bx j (λ i li. not_yet (cx + 23924 + i) (omega arith) (omega arith) (omega arith))
                 (heard_by j (omega arith)) f);
           },

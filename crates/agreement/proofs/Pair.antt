@@ -1,5 +1,5 @@
 -- One window that two ends open within the delay of one another.
-use Rattle.std.proofs.Common.{◌≡◌, ℕ, suc, ◌+◌, ◌-◌, ◌<◌, ◌≤◌, true, false, sym, ap, ◌∙◌, subst, inl, inr, add-suc, arith}
+use Rattle.std.proofs.Common.{◌≡◌, ℕ, suc, ◌+◌, ◌-◌, ◌<◌, ◌≤◌, true, false, Some, sym, ap, ◌∙◌, subst, inl, inr, add-suc, arith}
 use Rattle.std.proofs.lemmas.Bool.{cases_Bool, cases_lt}
 use Rattle.bringup.specs.declared.end.Phase.TheVariants.{Negotiating}
 use Rattle.bringup.specs.declared.rate.Rate.{Rate}
@@ -7,22 +7,22 @@ use Rattle.bringup.specs.declared.end.Window.{Window}
 use Rattle.bringup.specs.declared.end.Sign.TheVariants.{Align1}
 use Rattle.bringup.specs.declared.end.Activity.TheVariants as sends
 use Rattle.bringup.specs.Rates.{supports}
-use Rattle.bringup.specs.Asking.{activity}
+use Rattle.bringup.specs.Asking.{activity, latest_rate}
 use Rattle.agreement.specs.FairLine.{Life, Hears, Reaches, Receiving, state_at, rate_at, age, signs_at, has}
 use Rattle.agreement.proofs.Stages.{In}
 use Rattle.agreement.proofs.Windows.{current, window_stage, open_rate, locked_stays, aligned_stays, locked_since, aligned_since, align_noted_valid, sends_align, align_sender_locked}
 
 -- an end's phase, as the line's definitions have it
 abbrev pub At : Life → ℕ → Window → Type 0
-At x o w = In (signs_at x.notes) x.rates o Negotiating 0 w
+At x o w = In (signs_at x.notes) x.rates o Negotiating 0 (Some w)
 
 -- y sends no ALIGN(1) at rate r from 14000 ticks before its tick f on
 abbrev pub Silent : Life → ℕ → Rate → Type 0
-Silent y f r = (u : ℕ) → f ≤ u + 14000 → activity (state_at y u) ≡ sends.Align1 → rate_at y u ≡ r → ⊥
+Silent y f r = (u : ℕ) → f ≤ u + 14000 → activity (state_at y u) ≡ sends.Align1 → rate_at y u ≡ Some r → ⊥
 
 -- ... and up to f
 abbrev pub SilentBefore : Life → ℕ → Rate → Type 0
-SilentBefore y f r = (u : ℕ) → u < f → f ≤ u + 14000 → activity (state_at y u) ≡ sends.Align1 → rate_at y u ≡ r → ⊥
+SilentBefore y f r = (u : ℕ) → u < f → f ≤ u + 14000 → activity (state_at y u) ≡ sends.Align1 → rate_at y u ≡ Some r → ⊥
 
 module _ (delay : ℕ) (short : delay ≤ 7000) (x y : Life) (fair : Hears delay x y)
     (w : Window) (fresh : w.locked ≡ false) (unaligned : w.aligned ≡ false) (ox : ℕ) (opens-x : At x ox w) where
@@ -31,13 +31,13 @@ module _ (delay : ℕ) (short : delay ≤ 7000) (x y : Life) (fair : Hears delay
   wx k = current (signs_at x.notes) x.rates ox w fresh unaligned opens-x k
 
   -- its rate through the window
-  rate_x : (k : ℕ) → k < 328640 → rate_at x (ox + k) ≡ w.rate
-  rate_x k lt = ap (λ e. e.window.rate) (window_stage (signs_at x.notes) x.rates ox w fresh unaligned opens-x k lt)
-      ∙ open_rate (signs_at x.notes) x.rates ox w fresh unaligned opens-x k
+  rate_x : (k : ℕ) → k < 328640 → rate_at x (ox + k) ≡ Some w.rate
+  rate_x k lt = ap (λ e. latest_rate e.window) (window_stage (signs_at x.notes) x.rates ox w fresh unaligned opens-x k lt)
+      ∙ ap Some (open_rate (signs_at x.notes) x.rates ox w fresh unaligned opens-x k)
 
   -- a valid window heard ALIGN(1) of y
   heard_of : (wx 328639).aligned ≡ true →
-      (j u : ℕ) × ((j < 328639) × (u + y.born + delay ≡ suc (ox + j) + x.born) × (activity (state_at y u) ≡ sends.Align1) × (rate_at y u ≡ w.rate) × ((wx (suc j)).locked ≡ true))
+      (j u : ℕ) × ((j < 328639) × (u + y.born + delay ≡ suc (ox + j) + x.born) × (activity (state_at y u) ≡ sends.Align1) × (rate_at y u ≡ Some w.rate) × ((wx (suc j)).locked ≡ true))
   heard_of v =
       let (j, p) = aligned_since (signs_at x.notes) x.rates ox w fresh unaligned opens-x 328639 v in
       let (u, q) = fair.align_sent (suc (ox + j)) p.1 in (
@@ -47,7 +47,7 @@ module _ (delay : ℕ) (short : delay ≤ 7000) (x y : Life) (fair : Hears delay
           p.0,
           omega (arith, q.0),
           q.1.0,
-          q.1.1 ∙ subst (λ z. rate_at x z ≡ w.rate) (add-suc ox j) (rate_x (suc j) (omega (arith, p.0))),
+          q.1.1 ∙ subst (λ z. rate_at x z ≡ Some w.rate) (add-suc ox j) (rate_x (suc j) (omega (arith, p.0))),
           p.2,
         ),
       )
@@ -65,9 +65,9 @@ module _ (delay : ℕ) (short : delay ≤ 7000) (x y : Life) (fair : Hears delay
     wy k = current (signs_at y.notes) y.rates oy w fresh unaligned opens-y k
 
     -- its rate through the window
-    rate_y : (k : ℕ) → k < 328640 → rate_at y (oy + k) ≡ w.rate
-    rate_y k lt = ap (λ e. e.window.rate) (window_stage (signs_at y.notes) y.rates oy w fresh unaligned opens-y k lt)
-        ∙ open_rate (signs_at y.notes) y.rates oy w fresh unaligned opens-y k
+    rate_y : (k : ℕ) → k < 328640 → rate_at y (oy + k) ≡ Some w.rate
+    rate_y k lt = ap (λ e. latest_rate e.window) (window_stage (signs_at y.notes) y.rates oy w fresh unaligned opens-y k lt)
+        ∙ ap Some (open_rate (signs_at y.notes) y.rates oy w fresh unaligned opens-y k)
 
     -- if x's window is valid, both locked in time at a rate that both support
     pub valid_both_locked : SilentBefore y oy w.rate → (wx 328639).aligned ≡ true →

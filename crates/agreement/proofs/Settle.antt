@@ -1,17 +1,18 @@
 -- Two ends that open a window together come to one outcome.
-use Rattle.std.proofs.Common.{◌≡◌, ℕ, zero, suc, ◌+◌, ◌-◌, ◌*◌, ◌<◌, ◌≤◌, Bool, true, false, ◌⊎◌, sym, refl, ap, ◌∙◌, subst, inl, inr, arith}
+use Rattle.std.proofs.Common.{◌≡◌, ℕ, zero, suc, ◌+◌, ◌-◌, ◌*◌, ◌<◌, ◌≤◌, Bool, true, false, ◌⊎◌, Some, sym, refl, ap, ◌∙◌, subst, inl, inr, arith}
 use Rattle.std.proofs.lemmas.Bool.{both_ways, true≢false, false≢true, cases_Bool, cases_lt, and_from, and_parts}
+use Rattle.bringup.specs.declared.end.Phase.{Phase}
 use Rattle.bringup.specs.declared.end.Phase.TheVariants.{Negotiating, Ready, Failed}
 use Rattle.bringup.specs.declared.rate.Rate.{Rate}
 use Rattle.bringup.specs.declared.end.Window.{Window}
 use Rattle.bringup.specs.declared.end.Sign.TheVariants.{Locked}
 use Rattle.bringup.specs.declared.end.Activity.TheVariants.{Idle}
 use Rattle.bringup.specs.Rates.{supports, next_rate, previous_rate, past_highest, rate_number}
-use Rattle.bringup.specs.Asking.{activity, outcome_in}
+use Rattle.bringup.specs.Asking.{activity, latest_rate, outcome_in}
 use Rattle.agreement.specs.FairLine.{Life, Hears, state_at, rate_at, present, present_rate, age, signs_at, Over, is_over, BothReady, BothFailed, shared, OpensWindow, LocksInTime, has}
 use Rattle.agreement.proofs.Stages.{In}
-use Rattle.agreement.proofs.Windows.{current, window_stage, open_rate, lock_noted, locked_since, fresh_window, is_align1, closes_ready, closes_failed, closes_valid, closes_back, closes_gives_up, closes_next, ready_stays, failed_stays}
-use Rattle.agreement.proofs.RateOrder.{Within, within_step, at_most_four, rate_same, next_differs, previous_differs, supported_next, supported_above}
+use Rattle.agreement.proofs.Windows.{current, window_stage, open_rate, lock_noted, locked_since, fresh_window, is_align1, closes_ready, closes_failed, closes_valid, closes_back, closes_gives_up, closes_next, over_stays}
+use Rattle.agreement.proofs.RateOrder.{Within, within_step, at_least_one, at_most_four, rate_same, next_differs, previous_differs, supported_next, supported_above}
 use Rattle.agreement.proofs.Pair.{At, Silent, SilentBefore, invalid_alone, valid_both_locked, both_locked_valid}
 
 -- One end
@@ -30,7 +31,7 @@ module _ (x : Life) where
       | inl lt ↦
           (let z : o + (age x.notes - o) ≡ age x.notes = omega (arith, l.0) in
           let i = window_stage (signs_at x.notes) x.rates o w f u e (age x.notes - o) (omega (arith, l.0)) in
-          absurd (false≢true (ap is_over (sym (ap (λ q. q.phase) (subst (λ t. In (signs_at x.notes) x.rates t Negotiating (age x.notes - o) (current (signs_at x.notes) x.rates o w f u e (age x.notes - o))) z i))) ∙ over)))
+          absurd (false≢true (ap is_over (sym (ap (λ q. q.phase) (subst (λ t. In (signs_at x.notes) x.rates t Negotiating (age x.notes - o) (Some (current (signs_at x.notes) x.rates o w f u e (age x.notes - o)))) z i))) ∙ over)))
     ]
   ]
 
@@ -38,39 +39,37 @@ module _ (x : Life) where
   pub lasting_next : (o n : ℕ) → o + 328640 ≤ age x.notes → Lasting x o (suc n) → Lasting x (o + 328640) n
   lasting_next o n c l = (c, elim l.1 [ inl over ↦ inl over | inr long ↦ inr (omega arith) ])
 
-  -- an end that was ready is ready now, at that rate
-  pub ends_ready : (t : ℕ) (w : Window) → In (signs_at x.notes) x.rates t Ready 0 w → t ≤ age x.notes → ((present x).phase ≡ Ready) × (present_rate x ≡ w.rate)
-  ends_ready t w e le =
-      let (n, i) = ready_stays (signs_at x.notes) x.rates t w 0 e (age x.notes - t) in
+  -- an end that was over is so now, at that rate
+  pub ends_over : (p : Phase) → is_over p ≡ true → (t : ℕ) (w : Window) → In (signs_at x.notes) x.rates t p 0 (Some w) → t ≤ age x.notes →
+      ((present x).phase ≡ p) × (present_rate x ≡ Some w.rate)
+  ends_over p over t w e le =
+      let (n, i) = over_stays (signs_at x.notes) x.rates t (Some w) p over 0 e (age x.notes - t) in
       let z : t + (age x.notes - t) ≡ age x.notes = omega arith in
-      let j : In (signs_at x.notes) x.rates (age x.notes) Ready n w = subst (λ q. In (signs_at x.notes) x.rates q Ready n w) z i in
-      (ap (λ q. q.phase) j, ap (λ q. q.window.rate) j)
+      let j : In (signs_at x.notes) x.rates (age x.notes) p n (Some w) = subst (λ q. In (signs_at x.notes) x.rates q p n (Some w)) z i in
+      (ap (λ q. q.phase) j, ap (λ q. latest_rate q.window) j)
 
   -- an end that failed is failed now
-  pub ends_failed : (t : ℕ) (w : Window) → In (signs_at x.notes) x.rates t Failed 0 w → t ≤ age x.notes → (present x).phase ≡ Failed
-  ends_failed t w e le =
-      let (n, i) = failed_stays (signs_at x.notes) x.rates t w 0 e (age x.notes - t) in
-      let z : t + (age x.notes - t) ≡ age x.notes = omega arith in
-      ap (λ q. q.phase) (subst (λ q. In (signs_at x.notes) x.rates q Failed n w) z i)
+  pub ends_failed : (t : ℕ) (w : Window) → In (signs_at x.notes) x.rates t Failed 0 (Some w) → t ≤ age x.notes → (present x).phase ≡ Failed
+  ends_failed t w e le = (ends_over Failed refl t w e le).0
 
   -- in the last part of a window, only its rate is sent at
-  pub window_rate : (o : ℕ) (w : Window) → w.locked ≡ false → w.aligned ≡ false → At x o w → (u : ℕ) → u < o + 328640 → o + 328640 ≤ u + 14000 → rate_at x u ≡ w.rate
+  pub window_rate : (o : ℕ) (w : Window) → w.locked ≡ false → w.aligned ≡ false → At x o w → (u : ℕ) → u < o + 328640 → o + 328640 ≤ u + 14000 → rate_at x u ≡ Some w.rate
   window_rate o w f v e u lt ge =
       let z : o + (u - o) ≡ u = omega arith in
-      subst (λ q. rate_at x q ≡ w.rate) z
-      (ap (λ q. q.window.rate) (window_stage (signs_at x.notes) x.rates o w f v e (u - o) (omega arith))
-      ∙ open_rate (signs_at x.notes) x.rates o w f v e (u - o))
+      subst (λ q. rate_at x q ≡ Some w.rate) z
+      (ap (λ q. latest_rate q.window) (window_stage (signs_at x.notes) x.rates o w f v e (u - o) (omega arith))
+      ∙ ap Some (open_rate (signs_at x.notes) x.rates o w f v e (u - o)))
 
   -- a failed end sends nothing
-  failed_idle : (t : ℕ) (w : Window) → In (signs_at x.notes) x.rates t Failed 0 w → (u : ℕ) → t ≤ u → activity (state_at x u) ≡ Idle
+  failed_idle : (t : ℕ) (w : Window) → In (signs_at x.notes) x.rates t Failed 0 (Some w) → (u : ℕ) → t ≤ u → activity (state_at x u) ≡ Idle
   failed_idle t w e u le =
-      let (n, i) = failed_stays (signs_at x.notes) x.rates t w 0 e (u - t) in
+      let (n, i) = over_stays (signs_at x.notes) x.rates t (Some w) Failed refl 0 e (u - t) in
       let z : t + (u - t) ≡ u = omega arith in
       subst (λ q. activity (state_at x q) ≡ Idle) z (ap activity i)
 
   -- once failed after a window, an end is silent at every other rate
   pub failed_silent : (o : ℕ) (w v : Window) → w.locked ≡ false → w.aligned ≡ false → At x o w →
-      In (signs_at x.notes) x.rates (o + 328640) Failed 0 v → (r : Rate) → (w.rate ≡ r → ⊥) → Silent x (o + 328640) r
+      In (signs_at x.notes) x.rates (o + 328640) Failed 0 (Some v) → (r : Rate) → (Some w.rate ≡ Some r → ⊥) → Silent x (o + 328640) r
   failed_silent o w v f g e failed r other u ge a q = elim (cases_lt u (o + 328640)) [
     | inl lt ↦ other (sym (window_rate o w f g e u lt ge) ∙ q)
     | inr le ↦ false≢true (ap is_align1 (sym (failed_idle (o + 328640) v failed u le) ∙ a))
@@ -159,14 +158,14 @@ module _ (delay : ℕ) (short : delay ≤ 7000) (a b : Life) (fair-a : Hears del
         locked : (x : Life) (o : ℕ) (e : At x o w) → OpensWindow x o → o + 328640 ≤ age x.notes → LocksInTime a b x → supports x.rates w.rate ≡ true →
             (current (signs_at x.notes) x.rates o w f u e 314385).locked ≡ true
         locked x o e new c l sup =
-            let (k, q) = l o new (ap (λ z. shared a b z.window.rate) e ∙ sh) c in
+            let (k, q) = l o w.rate new (ap (λ z. latest_rate z.window) e) sh c in
             let z : o + 960 + k ≡ suc (o + (959 + k)) = omega arith in
             (locked_since (signs_at x.notes) x.rates o w f u e (suc (959 + k))
             (lock_noted (signs_at x.notes) x.rates o w f u e (959 + k) sup (omega arith) (omega (arith, q.0))
             (subst (λ t. has Locked (signs_at x.notes t) ≡ true) z q.1))).0
 
     -- both open another window, at another rate
-    pub joint_next : (v : Window) → At a (oa + 328640) v → At b (ob + 328640) v → (w.rate ≡ v.rate → ⊥) →
+    pub joint_next : (v : Window) → At a (oa + 328640) v → At b (ob + 328640) v → (Some w.rate ≡ Some v.rate → ⊥) →
         Joint delay a b (oa + 328640) (ob + 328640) v
     joint_next v ea eb other = record {
       opens_a = ea;
@@ -175,8 +174,8 @@ module _ (delay : ℕ) (short : delay ≤ 7000) (a b : Life) (fair-a : Hears del
       near_b = omega (arith, j.near_b);
       silent_a = λ t lt ge _ q. other (sym (window_rate a oa w f u j.opens_a t lt ge) ∙ q);
       silent_b = λ t lt ge _ q. other (sym (window_rate b ob w f u j.opens_b t lt ge) ∙ q);
-      new_a = (oa + 328639, (omega arith, λ q. other (sym (window_rate a oa w f u j.opens_a (oa + 328639) (omega arith) (omega arith)) ∙ (q ∙ ap (λ z. z.window.rate) ea))));
-      new_b = (ob + 328639, (omega arith, λ q. other (sym (window_rate b ob w f u j.opens_b (ob + 328639) (omega arith) (omega arith)) ∙ (q ∙ ap (λ z. z.window.rate) eb))));
+      new_a = (oa + 328639, (omega arith, λ q. other (sym (window_rate a oa w f u j.opens_a (oa + 328639) (omega arith) (omega arith)) ∙ (q ∙ ap (λ z. latest_rate z.window) ea))));
+      new_b = (ob + 328639, (omega arith, λ q. other (sym (window_rate b ob w f u j.opens_b (ob + 328639) (omega arith) (omega arith)) ∙ (q ∙ ap (λ z. latest_rate z.window) eb))));
     }
 
 module _ (delay : ℕ) (short : delay ≤ 7000) (a b : Life) (fair-a : Hears delay a b) (fair-b : Hears delay b a) where
@@ -201,18 +200,18 @@ module _ (delay : ℕ) (short : delay ≤ 7000) (a b : Life) (fair-a : Hears del
       let cb : ob + 328640 ≤ age b.notes = lasting_closes b ob 0 w refl refl j.opens_b lb in
       elim (together delay short a b fair-a fair-b oa ob w refl refl j ca cb) [
         | inl p ↦
-            (let ra = ends_ready a (oa + 328640) (current (signs_at a.notes) a.rates oa w refl refl j.opens_a 328639)
+            (let ra = ends_over a Ready refl (oa + 328640) (current (signs_at a.notes) a.rates oa w refl refl j.opens_a 328639)
             (closes_ready (signs_at a.notes) a.rates oa w refl refl j.opens_a refl p.0) ca in
-            let rb = ends_ready b (ob + 328640) (current (signs_at b.notes) b.rates ob w refl refl j.opens_b 328639)
+            let rb = ends_over b Ready refl (ob + 328640) (current (signs_at b.notes) b.rates ob w refl refl j.opens_b 328639)
             (closes_ready (signs_at b.notes) b.rates ob w refl refl j.opens_b refl p.1) cb in
-            let qa : present_rate a ≡ r = ra.1 ∙ open_rate (signs_at a.notes) a.rates oa w refl refl j.opens_a 328639 in
-            let qb : present_rate b ≡ r = rb.1 ∙ open_rate (signs_at b.notes) b.rates ob w refl refl j.opens_b 328639 in
             let ready : BothReady a b = record {
               first = ap outcome_in ra.0;
               second = ap outcome_in rb.0;
-              one_rate = qa ∙ sym qb;
-              supported_first = ap (supports a.rates) qa ∙ p.2;
-              supported_second = ap (supports b.rates) qb ∙ p.3;
+              rate = r;
+              rate_first = ra.1 ∙ ap Some (open_rate (signs_at a.notes) a.rates oa w refl refl j.opens_a 328639);
+              rate_second = rb.1 ∙ ap Some (open_rate (signs_at b.notes) b.rates ob w refl refl j.opens_b 328639);
+              supported_first = p.2;
+              supported_second = p.3;
             } in
             (inl ready, λ _. ready))
         | inr p ↦ both_failed
@@ -234,7 +233,7 @@ module _ (delay : ℕ) (short : delay ≤ 7000) (a b : Life) (fair-a : Hears del
 
   -- one window that is not the last, with what follows it
   settle_step : (n : ℕ) (r : Rate) (av : Bool) (oa ob : ℕ) → Joint delay a b oa ob (fresh_window r false av) →
-      4 ≤ rate_number r + n → 1 ≤ rate_number r → (av ≡ false → Within a.rates r × Within b.rates r) →
+      4 ≤ rate_number r + n → (av ≡ true → 2 ≤ rate_number r) → (av ≡ false → Within a.rates r × Within b.rates r) →
       Lasting a oa (suc (suc n)) → Lasting b ob (suc (suc n)) →
       ((next : Bool) → rate_number (next_rate r) ≡ suc (rate_number r) → Joint delay a b (oa + 328640) (ob + 328640) (fresh_window (next_rate r) false next) →
       (next ≡ false → Within a.rates (next_rate r) × Within b.rates (next_rate r)) →
@@ -259,7 +258,7 @@ module _ (delay : ℕ) (short : delay ≤ 7000) (a b : Life) (fair-a : Hears del
       was_valid p =
           let s = supported_next a.rates r p.2 in
           let next = joint_next delay short a b fair-a fair-b oa ob (fresh_window r false av) refl refl j ca cb (fresh_window (next_rate r) false true)
-          (closes_valid (signs_at a.notes) a.rates oa (fresh_window r false av) refl refl j.opens_a refl p.0) (closes_valid (signs_at b.notes) b.rates ob (fresh_window r false av) refl refl j.opens_b refl p.1) (next_differs r s.0) in
+          (closes_valid (signs_at a.notes) a.rates oa (fresh_window r false av) refl refl j.opens_a refl p.0) (closes_valid (signs_at b.notes) b.rates ob (fresh_window r false av) refl refl j.opens_b refl p.1) (λ d. next_differs r s.0 (cc d)) in
           let res = onward true s.0 next (λ e. absurd (true≢false e)) ca cb in
           (res.0, λ h. res.1 (h.0, ((λ _. ap (shared a b) s.1 ∙ and_from (supports a.rates r) (supports b.rates r) p.2 p.3), λ e. absurd (true≢false e))))
 
@@ -284,10 +283,10 @@ module _ (delay : ℕ) (short : delay ≤ 7000) (a b : Life) (fair-a : Hears del
           let (q, t) = hope_above e n h in
           both_ways (past_highest b.rates r) (supported_above b.rates r q (and_parts (supports a.rates q) (supports b.rates q) t.0).1 t.1) p
 
-      gives_up_a : av ≡ false → a_valid? ≡ false → past_highest a.rates r ≡ true → In (signs_at a.notes) a.rates (oa + 328640) Failed 0 (current (signs_at a.notes) a.rates oa (fresh_window r false av) refl refl j.opens_a 328639)
+      gives_up_a : av ≡ false → a_valid? ≡ false → past_highest a.rates r ≡ true → In (signs_at a.notes) a.rates (oa + 328640) Failed 0 (Some (current (signs_at a.notes) a.rates oa (fresh_window r false av) refl refl j.opens_a 328639))
       gives_up_a e n p = closes_gives_up (signs_at a.notes) a.rates oa (fresh_window r false av) refl refl j.opens_a refl n e p
 
-      gives_up_b : av ≡ false → b_valid? ≡ false → past_highest b.rates r ≡ true → In (signs_at b.notes) b.rates (ob + 328640) Failed 0 (current (signs_at b.notes) b.rates ob (fresh_window r false av) refl refl j.opens_b 328639)
+      gives_up_b : av ≡ false → b_valid? ≡ false → past_highest b.rates r ≡ true → In (signs_at b.notes) b.rates (ob + 328640) Failed 0 (Some (current (signs_at b.notes) b.rates ob (fresh_window r false av) refl refl j.opens_b 328639))
       gives_up_b e n p = closes_gives_up (signs_at b.notes) b.rates ob (fresh_window r false av) refl refl j.opens_b refl n e p
 
       a_alone : av ≡ false → a_valid? ≡ false → b_valid? ≡ false → past_highest a.rates r ≡ false → past_highest b.rates r ≡ true → (present a).phase ≡ Failed
@@ -295,7 +294,7 @@ module _ (delay : ℕ) (short : delay ≤ 7000) (a b : Life) (fair-a : Hears del
           let s = within_step a.rates r (within e).0 pa in
           alone delay short a b fair-a (ob + 328640) n (next_rate r) (oa + 328640) (closes_next (signs_at a.notes) a.rates oa (fresh_window r false av) refl refl j.opens_a refl na e pa) (omega (arith, s.0)) s.1
           (λ q le. failed_silent b ob (fresh_window r false av) (current (signs_at b.notes) b.rates ob (fresh_window r false av) refl refl j.opens_b 328639) refl refl j.opens_b (gives_up_b e nb pb) q
-          (λ d. omega (arith, ap rate_number d, s.0)))
+          (λ d. let z : r ≡ q = cc d in omega (arith, ap rate_number z, s.0)))
           (omega (arith, j.near_a)) (lasting_next a oa (suc n) ca la)
 
       b_alone : av ≡ false → a_valid? ≡ false → b_valid? ≡ false → past_highest a.rates r ≡ true → past_highest b.rates r ≡ false → (present b).phase ≡ Failed
@@ -303,13 +302,13 @@ module _ (delay : ℕ) (short : delay ≤ 7000) (a b : Life) (fair-a : Hears del
           let s = within_step b.rates r (within e).1 pb in
           alone delay short b a fair-b (oa + 328640) n (next_rate r) (ob + 328640) (closes_next (signs_at b.notes) b.rates ob (fresh_window r false av) refl refl j.opens_b refl nb e pb) (omega (arith, s.0)) s.1
           (λ q le. failed_silent a oa (fresh_window r false av) (current (signs_at a.notes) a.rates oa (fresh_window r false av) refl refl j.opens_a 328639) refl refl j.opens_a (gives_up_a e na pa) q
-          (λ d. omega (arith, ap rate_number d, s.0)))
+          (λ d. let z : r ≡ q = cc d in omega (arith, ap rate_number z, s.0)))
           (omega (arith, j.near_b)) (lasting_next b ob (suc n) cb lb)
 
       was_invalid : (v : Bool) → av ≡ v → ((a_valid? ≡ false) × (b_valid? ≡ false)) → Result (Hope r av)
       was_invalid true e p =
           let back = joint_next delay short a b fair-a fair-b oa ob (fresh_window r false av) refl refl j ca cb (fresh_window (previous_rate r) true false)
-          (closes_back (signs_at a.notes) a.rates oa (fresh_window r false av) refl refl j.opens_a refl p.0 e) (closes_back (signs_at b.notes) b.rates ob (fresh_window r false av) refl refl j.opens_b refl p.1 e) (previous_differs r pos) in
+          (closes_back (signs_at a.notes) a.rates oa (fresh_window r false av) refl refl j.opens_a refl p.0 e) (closes_back (signs_at b.notes) b.rates ob (fresh_window r false av) refl refl j.opens_b refl p.1 e) (λ d. previous_differs r (pos e) (cc d)) in
           let res = settle_last (previous_rate r) (oa + 328640) (ob + 328640) back
           (lasting_one a (oa + 328640) n (lasting_next a oa (suc n) ca la)) (lasting_one b (ob + 328640) n (lasting_next b ob (suc n) cb lb)) in
           (res.0, λ h. res.1 (h.1.0 e, h.0))
@@ -327,7 +326,7 @@ module _ (delay : ℕ) (short : delay ≤ 7000) (a b : Life) (fair-a : Hears del
               (let sa = within_step a.rates r (within e).0 pa in
               let sb = within_step b.rates r (within e).1 pb in
               let next = joint_next delay short a b fair-a fair-b oa ob (fresh_window r false av) refl refl j ca cb (fresh_window (next_rate r) false false)
-              (closes_next (signs_at a.notes) a.rates oa (fresh_window r false av) refl refl j.opens_a refl p.0 e pa) (closes_next (signs_at b.notes) b.rates ob (fresh_window r false av) refl refl j.opens_b refl p.1 e pb) (next_differs r sa.0) in
+              (closes_next (signs_at a.notes) a.rates oa (fresh_window r false av) refl refl j.opens_a refl p.0 e pa) (closes_next (signs_at b.notes) b.rates ob (fresh_window r false av) refl refl j.opens_b refl p.1 e pb) (λ d. next_differs r sa.0 (cc d)) in
               let res = onward false sa.0 next (λ _. (sa.1, sb.1)) ca cb in (
                 res.0,
                 λ h. res.1 (
@@ -344,12 +343,12 @@ module _ (delay : ℕ) (short : delay ≤ 7000) (a b : Life) (fair-a : Hears del
 
   -- so with enough windows left two ends that open one together come to one outcome
   pub settle : (n : ℕ) (r : Rate) (av : Bool) (oa ob : ℕ) → Joint delay a b oa ob (fresh_window r false av) →
-      4 ≤ rate_number r + n → 1 ≤ rate_number r → (av ≡ false → Within a.rates r × Within b.rates r) →
+      4 ≤ rate_number r + n → (av ≡ true → 2 ≤ rate_number r) → (av ≡ false → Within a.rates r × Within b.rates r) →
       Lasting a oa (suc (suc n)) → Lasting b ob (suc (suc n)) → Result (Hope r av)
   settle zero r av oa ob j enough pos within la lb =
       settle_step zero r av oa ob j enough pos within la lb
       (λ next up _ _ _ _. absurd (omega (arith, at_most_four (next_rate r))))
   settle (suc n) r av oa ob j enough pos within la lb =
       settle_step (suc n) r av oa ob j enough pos within la lb
-      (λ next up jn wn ca cb. settle n (next_rate r) next (oa + 328640) (ob + 328640) jn (omega arith) (omega arith) wn
+      (λ next up jn wn ca cb. settle n (next_rate r) next (oa + 328640) (ob + 328640) jn (omega arith) (λ _. omega (arith, at_least_one r)) wn
       (lasting_next a oa (suc (suc n)) ca la) (lasting_next b ob (suc (suc n)) cb lb))

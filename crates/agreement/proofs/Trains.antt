@@ -1,10 +1,10 @@
 -- What a detector makes of COMINIT and COMSAS.
 use Rattle.std.proofs.Common.{◌≡◌, ℕ, zero, suc, ◌+◌, ◌*◌, ◌%◌, ◌<◌, ◌≤◌, Bool, true, false, ◌&&◌, ltb, leb, ◌⊎◌, Some, None, Option, sym, refl, ap, ◌∙◌, subst, inl, inr, add-zero, add-suc, arith}
-use Rattle.std.proofs.lemmas.Bool.{cond-true, cond-false, cond_both, lt-ltb, le-ltb, lt-leb, le-leb, and_right, and_left, and_from, and_parts, and_cases, ltb-true, leb-true, ltb-false, leb-false, both_ways, true≢false, false≢true, cases_Bool, cases_lt}
+use Rattle.std.proofs.lemmas.Bool.{cond-true, cond_both, lt-ltb, le-ltb, lt-leb, le-leb, and_right, and_left, and_from, and_parts, and_cases, ltb-true, leb-true, ltb-false, leb-false, both_ways, true≢false, false≢true, cases_Bool, cases_lt}
 use Rattle.std.proofs.lemmas.Bool.Decides.{nat_tests}
 use Rattle.bringup.specs.declared.detector.Detector.{Detector}
 use Rattle.bringup.specs.declared.signal.Signal.{Signal}
-use Rattle.bringup.specs.declared.signal.Signal.TheVariants.{Comwake, Cominit, Comsas}
+use Rattle.bringup.specs.declared.signal.Signal.TheVariants.{Comsas}
 use Rattle.bringup.specs.Detection.{passed, risen, ceased, more, signal_of, alike_after, closed, is_comsas}
 use Rattle.bringup.specs.Asking.{in_burst}
 use Rattle.agreement.proofs.Hearing.{hear, relay, relay_zero, relay_suc, relay_step, relay_split, shift, idled, passed-burst, stay_burst, stay_idle, periods, periods_burst, periods_fallen, comsas_detected, cominit_detected, train, risen-burst, hear_fallen}
@@ -48,12 +48,7 @@ comsas_past u a = and_left (ltb u 19200) (leb 2880 (u % 3200)) (le-ltb u 19200 a
 pub passed_same : (d : Detector) →
     ((passed d).burst ≡ d.burst) × ((passed d).signal ≡ d.signal) × ((passed d).alike ≡ d.alike)
     × ((passed d).cominit ≡ d.cominit) × ((passed d).comsas ≡ d.comsas)
-passed_same d = go d.burst refl
-  where
-    go : (b : Bool) → d.burst ≡ b → ((passed d).burst ≡ d.burst) × ((passed d).signal ≡ d.signal) × ((passed d).alike ≡ d.alike)
-        × ((passed d).cominit ≡ d.cominit) × ((passed d).comsas ≡ d.comsas)
-    go true e = (rw e, rw e, rw e, rw e, rw e)
-    go false e = (rw e, rw e, rw e, rw e, rw e)
+passed_same d = (grind (arith, nat_tests), grind (arith, nat_tests), grind (arith, nat_tests), grind (arith, nat_tests), grind (arith, nat_tests))
 
 -- nothing falls that was not detected
 pub passed_fallen : (d : Detector) → d.comsas ≡ false → (passed d).fallen ≡ d.fallen
@@ -69,15 +64,12 @@ short_kind n h = grind (arith, nat_tests)
 
 -- a first idle makes at most one alike
 pub first_alike : (k : Option Signal) (n : ℕ) → alike_after k None n ≤ 1
-first_alike None n = omega arith
-first_alike (Some Comwake) n = omega arith
-first_alike (Some Cominit) n = omega arith
-first_alike (Some Comsas) n = omega arith
+first_alike k n = grind (arith, nat_tests)
 
 -- a start closes the idle
 pub risen_idle : (d : Detector) → d.burst ≡ false →
     risen d ≡ closed (signal_of d.idle) (alike_after (signal_of d.idle) d.signal d.alike) d
-risen_idle d e = cond-false d.burst d (closed (signal_of d.idle) (alike_after (signal_of d.idle) d.signal d.alike) d) e
+risen_idle d e = rw e
 
 -- What is known of a detector that has heard COMINIT at most, at tick u of the sender
 pub record Early (u : ℕ) (d : Detector) : Type 0 where
@@ -90,7 +82,7 @@ pub record Early (u : ℕ) (d : Detector) : Type 0 where
 
 -- an idle that does not complete a row of four of COMSAS detects none
 closed_no_comsas : (k : Option Signal) (n : ℕ) (d : Detector) → d.comsas ≡ false → (is_comsas k && leb 4 n) ≡ false → (closed k n d).comsas ≡ false
-closed_no_comsas k n d e f = cond-false (is_comsas k && leb 4 n) true d.comsas f ∙ e
+closed_no_comsas k n d e f = rw f e
 
 -- the first burst of COMINIT starts
 early_first : (u : ℕ) (d : Detector) → Early u d → u < 960 → in_burst 960 u ≡ false → in_burst 960 (suc u) ≡ true →

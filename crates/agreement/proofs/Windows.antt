@@ -1,5 +1,6 @@
 -- One window of one end.
-use Rattle.std.proofs.Common.{◌≡◌, ℕ, zero, suc, ◌+◌, ◌-◌, ◌<◌, ◌≤◌, Bool, true, false, cond, ◌&&◌, leb, ◌⊎◌, List, [], ◌∷◌, sym, refl, ap, ◌∙◌, subst, inl, inr, add-zero, add-suc, arith}
+use Rattle.std.proofs.Common.{◌≡◌, ℕ, zero, suc, ◌+◌, ◌-◌, ◌<◌, ◌≤◌, Bool, true, false, cond, ◌&&◌, leb, ◌⊎◌, List, [], ◌∷◌, Some, Option, sym, refl, ap, ◌∙◌, subst, inl, inr, add-zero, add-suc, arith}
+use Rattle.std.proofs.lemmas.Bool.Decides.{nat_tests}
 use Rattle.std.proofs.lemmas.Bool.{cond-true, cond-false, cond_both, and_from, and_parts, le-leb, leb-true, both_ways, false≢true, cases_Bool, cases_lt, or_right}
 use Rattle.bringup.specs.declared.end.Phase.{Phase}
 use Rattle.bringup.specs.declared.end.Phase.TheVariants.{Negotiating, Ready, Failed}
@@ -11,13 +12,13 @@ use Rattle.bringup.specs.declared.end.Sign.TheVariants.{Nothing, BurstStarts, Bu
 use Rattle.bringup.specs.declared.end.Activity.{Activity}
 use Rattle.bringup.specs.declared.end.Activity.TheVariants.{Idle, Burst}
 use Rattle.bringup.specs.declared.end.Activity.TheVariants as sends
-use Rattle.bringup.specs.Bringup.{locked_window, aligned_window, closed_window, entered, later}
+use Rattle.bringup.specs.Bringup.{locked_window, aligned_window, is_awaiting, is_negotiating, settled, closing, later}
 use Rattle.bringup.specs.Rates.{supports, next_rate, previous_rate, past_highest}
 use Rattle.bringup.specs.Asking.{activity}
 use Rattle.bringup.specs.Detection.{passed}
 use Rattle.bringup.specs.declared.detector.Detector.{Detector}
 use Rattle.bringup.specs.declared.end.End.{End}
-use Rattle.agreement.specs.FairLine.{has, is_sign, all_signed}
+use Rattle.agreement.specs.FairLine.{has, is_sign, all_signed, is_over}
 use Rattle.agreement.proofs.Machine.{make, ears, window_all, in_time, window_step, heard, signs_opening, signs_other}
 use Rattle.agreement.proofs.Stages.{state, In, step}
 
@@ -58,9 +59,9 @@ grows_more g gs s k v w h = record {
 -- a lock ahead of other signs
 grows_locked : (gs : List Sign) (s : RateSet) (k : ℕ) (w : Window) → ((v : Window) → Grows s k gs v (window_all gs s k v)) →
     (b : Bool) → in_time s k w ≡ b → Grows s k (Locked ∷ gs) w (window_all gs s k (cond (in_time s k w) (locked_window w) w))
-grows_locked gs s k w rest true e = subst (λ z. Grows s k (Locked ∷ gs) w (window_all gs s k z)) (sym (cond-true (in_time s k w) (locked_window w) w e))
-    (let h = rest (locked_window w) in
-    record {
+grows_locked gs s k w rest true e =
+    let h = rest (locked_window w) in
+    rw e (record {
       rate = h.rate;
       last = h.last;
       valid_before = h.valid_before;
@@ -69,8 +70,7 @@ grows_locked gs s k w rest true e = subst (λ z. Grows s k (Locked ∷ gs) w (wi
       lock_counts = λ _. inr e;
       align_noted = h.align_noted;
     })
-grows_locked gs s k w rest false e = subst (λ z. Grows s k (Locked ∷ gs) w (window_all gs s k z)) (sym (cond-false (in_time s k w) (locked_window w) w e))
-    (grows_more Locked gs s k w (window_all gs s k w) (rest w))
+grows_locked gs s k w rest false e = rw e (grows_more Locked gs s k w (window_all gs s k w) (rest w))
 
 -- an ALIGN(1) ahead of other signs
 grows_align : (gs : List Sign) (s : RateSet) (k : ℕ) (w : Window) → ((v : Window) → Grows s k gs v (window_all gs s k v)) →
@@ -131,8 +131,7 @@ is_align1 sends.Align1 = true
 
 -- it does not before a lock has counted
 not_align1 : (b : Bool) → is_align1 (cond b sends.Align0 Idle) ≡ false
-not_align1 true = refl
-not_align1 false = refl
+not_align1 b = grind (arith, nat_tests)
 
 -- a window as it opens
 abbrev pub fresh_window : Rate → Bool → Bool → Window
@@ -140,18 +139,18 @@ fresh_window r last av = record { rate = r; last = last; follows = av; locked = 
 
 -- The window opened at tick o with w
 module _ (h : ℕ → List Sign) (s : RateSet) (o : ℕ) (w : Window) (fresh : w.locked ≡ false) (unaligned : w.aligned ≡ false)
-    (opens : In h s o Negotiating 0 w) where
+    (opens : In h s o Negotiating 0 (Some w)) where
   -- the window after k ticks
   unfoldable pub current : ℕ → Window
   current zero = w
   current (suc k) = window_all (h (suc (o + k))) s (suc k) (current k)
 
   -- from where it opens the end is in it for 328,640 ticks
-  pub window_stage : (k : ℕ) → k < 328640 → In h s (o + k) Negotiating k (current k)
+  pub window_stage : (k : ℕ) → k < 328640 → In h s (o + k) Negotiating k (Some (current k))
   unfolding current
   window_stage zero _ = rw (add-zero o) opens
   window_stage (suc k) lt = rw (add-suc o k)
-      (step h s (o + k) Negotiating Negotiating k (suc k) (current k) (current (suc k)) (window_stage k (omega arith))
+      (step h s (o + k) Negotiating Negotiating k (suc k) (Some (current k)) (Some (current (suc k))) (window_stage k (omega arith))
       (window_step (h (suc (o + k))) s k (ears h (o + k)) (current k) lt))
 
   -- from tick to tick the window grows
@@ -259,12 +258,12 @@ module _ (h : ℕ → List Sign) (s : RateSet) (o : ℕ) (w : Window) (fresh : w
           ∙ ap (λ z. cond (supports s (current k).rate && leb 960 k) z Idle) (cond-false (current k).locked sends.Align1 sends.Align0 n)
 
   -- the window closes with the tick after its last
-  closing : (p : Phase) (v : Window) →
-      all_signed (h (suc (o + 328639))) (closed_window (make s Negotiating 328640 (passed (ears h (o + 328639))) (current 328639)))
+  closes : (p : Phase) (v : Option Window) →
+      all_signed (h (suc (o + 328639))) (closing (current 328639) (make s Negotiating 328640 (passed (ears h (o + 328639))) (Some (current 328639))))
       ≡ make s p 0 (heard (h (suc (o + 328639))) (passed (ears h (o + 328639)))) v →
       In h s (o + 328640) p 0 v
-  closing p v e = subst (λ z. In h s z p 0 v) (sym (add-suc o 328639))
-      (step h s (o + 328639) Negotiating p 328639 0 (current 328639) v (window_stage 328639 (omega arith)) e)
+  closes p v e = subst (λ z. In h s z p 0 v) (sym (add-suc o 328639))
+      (step h s (o + 328639) Negotiating p 328639 0 (Some (current 328639)) v (window_stage 328639 (omega arith)) e)
 
   -- whether the window was valid when it closed
   abbrev valid : Bool
@@ -276,75 +275,62 @@ module _ (h : ℕ → List Sign) (s : RateSet) (o : ℕ) (w : Window) (fresh : w
 
   -- the end before the transition of the last tick
   abbrev last_end : End
-  last_end = make s Negotiating 328640 last_detector (current 328639)
+  last_end = make s Negotiating 328640 last_detector (Some (current 328639))
 
   -- what follows is a window: its first signs change nothing of it
-  reopened : (r : Rate) (last av : Bool) → closed_window last_end ≡ make s Negotiating 0 last_detector (fresh_window r last av) →
-      In h s (o + 328640) Negotiating 0 (fresh_window r last av)
-  reopened r last av e = closing Negotiating (fresh_window r last av)
+  reopened : (r : Rate) (last av : Bool) → closing (current 328639) last_end ≡ make s Negotiating 0 last_detector (Some (fresh_window r last av)) →
+      In h s (o + 328640) Negotiating 0 (Some (fresh_window r last av))
+  reopened r last av e = closes Negotiating (Some (fresh_window r last av))
       (ap (all_signed (h (suc (o + 328639)))) e ∙ signs_opening (h (suc (o + 328639))) s last_detector (fresh_window r last av) refl)
 
-  -- what follows a window that is not the last, by its validity
-  not_last : w.last ≡ false → closed_window last_end ≡
-      cond valid (make s Negotiating 0 last_detector (fresh_window (next_rate (current 328639).rate) false true))
-      (cond (current 328639).follows (make s Negotiating 0 last_detector (fresh_window (previous_rate (current 328639).rate) true false))
-      (cond (past_highest s (current 328639).rate) (make s Failed 0 last_detector (current 328639))
-      (make s Negotiating 0 last_detector (fresh_window (next_rate (current 328639).rate) false false))))
-  not_last e = cond-false (current 328639).last (entered (cond valid Ready Failed) last_end)
-      (cond valid (make s Negotiating 0 last_detector (fresh_window (next_rate (current 328639).rate) false true))
-      (cond (current 328639).follows (make s Negotiating 0 last_detector (fresh_window (previous_rate (current 328639).rate) true false))
-      (cond (past_highest s (current 328639).rate) (make s Failed 0 last_detector (current 328639))
-      (make s Negotiating 0 last_detector (fresh_window (next_rate (current 328639).rate) false false))))) (open_last 328639 ∙ e)
-
   -- a valid final window gives ready
-  pub closes_ready : w.last ≡ true → valid ≡ true → In h s (o + 328640) Ready 0 (current 328639)
-  closes_ready l v = closing Ready (current 328639)
-      (ap (all_signed (h (suc (o + 328639)))) (simp (open_last 328639, l, v)) ∙ signs_other (h (suc (o + 328639))) s Ready 0 last_detector (current 328639) refl refl)
+  pub closes_ready : w.last ≡ true → valid ≡ true → In h s (o + 328640) Ready 0 (Some (current 328639))
+  closes_ready l v = closes Ready (Some (current 328639))
+      (ap (all_signed (h (suc (o + 328639)))) (simp (open_last 328639, l, v)) ∙ signs_other (h (suc (o + 328639))) s Ready 0 last_detector (Some (current 328639)) refl refl)
 
   -- an invalid final window gives failed
-  pub closes_failed : w.last ≡ true → valid ≡ false → In h s (o + 328640) Failed 0 (current 328639)
-  closes_failed l v = closing Failed (current 328639)
-      (ap (all_signed (h (suc (o + 328639)))) (simp (open_last 328639, l, v)) ∙ signs_other (h (suc (o + 328639))) s Failed 0 last_detector (current 328639) refl refl)
+  pub closes_failed : w.last ≡ true → valid ≡ false → In h s (o + 328640) Failed 0 (Some (current 328639))
+  closes_failed l v = closes Failed (Some (current 328639))
+      (ap (all_signed (h (suc (o + 328639)))) (simp (open_last 328639, l, v)) ∙ signs_other (h (suc (o + 328639))) s Failed 0 last_detector (Some (current 328639)) refl refl)
 
   -- a valid window is followed by the next rate
-  pub closes_valid : w.last ≡ false → valid ≡ true → In h s (o + 328640) Negotiating 0 (fresh_window (next_rate w.rate) false true)
-  closes_valid l v = reopened (next_rate w.rate) false true (not_last l ∙ simp (v, open_rate 328639))
+  pub closes_valid : w.last ≡ false → valid ≡ true → In h s (o + 328640) Negotiating 0 (Some (fresh_window (next_rate w.rate) false true))
+  closes_valid l v = reopened (next_rate w.rate) false true (simp (open_last 328639, l, v, open_rate 328639))
 
   -- an invalid one after a valid one is followed by the final one
   pub closes_back : w.last ≡ false → valid ≡ false → w.follows ≡ true →
-      In h s (o + 328640) Negotiating 0 (fresh_window (previous_rate w.rate) true false)
-  closes_back l v a = reopened (previous_rate w.rate) true false (not_last l ∙ simp (v, open_valid_before 328639, a, open_rate 328639))
+      In h s (o + 328640) Negotiating 0 (Some (fresh_window (previous_rate w.rate) true false))
+  closes_back l v a = reopened (previous_rate w.rate) true false (simp (open_last 328639, l, v, open_valid_before 328639, a, open_rate 328639))
 
   -- an invalid one above the highest rate gives failed
   pub closes_gives_up : w.last ≡ false → valid ≡ false → w.follows ≡ false → past_highest s w.rate ≡ true →
-      In h s (o + 328640) Failed 0 (current 328639)
-  closes_gives_up l v a p = closing Failed (current 328639)
-      (ap (all_signed (h (suc (o + 328639)))) (not_last l ∙ simp (v, open_valid_before 328639, a, open_rate 328639, p))
-      ∙ signs_other (h (suc (o + 328639))) s Failed 0 last_detector (current 328639) refl refl)
+      In h s (o + 328640) Failed 0 (Some (current 328639))
+  closes_gives_up l v a p = closes Failed (Some (current 328639))
+      (ap (all_signed (h (suc (o + 328639)))) (simp (open_last 328639, l, v, open_valid_before 328639, a, open_rate 328639, p))
+      ∙ signs_other (h (suc (o + 328639))) s Failed 0 last_detector (Some (current 328639)) refl refl)
 
   -- any other is followed by the next rate
   pub closes_next : w.last ≡ false → valid ≡ false → w.follows ≡ false → past_highest s w.rate ≡ false →
-      In h s (o + 328640) Negotiating 0 (fresh_window (next_rate w.rate) false false)
-  closes_next l v a p = reopened (next_rate w.rate) false false (not_last l ∙ simp (v, open_valid_before 328639, a, open_rate 328639, p))
+      In h s (o + 328640) Negotiating 0 (Some (fresh_window (next_rate w.rate) false false))
+  closes_next l v a p = reopened (next_rate w.rate) false false (simp (open_last 328639, l, v, open_valid_before 328639, a, open_rate 328639, p))
 
--- an end that is ready or failed stays so
-module _ (h : ℕ → List Sign) (s : RateSet) (t : ℕ) (w : Window) where
-  -- ready is for good
-  pub ready_stays : (k : ℕ) → In h s t Ready k w → (j : ℕ) → (n : ℕ) × In h s (t + j) Ready n w
-  ready_stays k e zero = (k, rw (add-zero t) e)
-  ready_stays k e (suc j) =
-      let (n, i) = ready_stays k e j in (
-        later n,
-        rw (add-suc t j) (step h s (t + j) Ready Ready n (later n) w w i
-            (signs_other (h (suc (t + j))) s Ready (later n) (passed (ears h (t + j))) w refl refl)),
-      )
+-- an end that is over makes no transition
+over_settled : (p : Phase) (e : End) → is_over p ≡ true → settled p e ≡ e
+over_settled p e over = grind (arith, nat_tests)
 
-  -- failed is for good
-  pub failed_stays : (k : ℕ) → In h s t Failed k w → (j : ℕ) → (n : ℕ) × In h s (t + j) Failed n w
-  failed_stays k e zero = (k, rw (add-zero t) e)
-  failed_stays k e (suc j) =
-      let (n, i) = failed_stays k e j in (
-        later n,
-        rw (add-suc t j) (step h s (t + j) Failed Failed n (later n) w w i
-            (signs_other (h (suc (t + j))) s Failed (later n) (passed (ears h (t + j))) w refl refl)),
-      )
+-- and neither waits nor negotiates
+over_idle : (p : Phase) → is_over p ≡ true → (is_awaiting p ≡ false) × (is_negotiating p ≡ false)
+over_idle p over = (grind (arith, nat_tests), grind (arith, nat_tests))
+
+-- so it is over for good
+pub over_stays : (h : ℕ → List Sign) (s : RateSet) (t : ℕ) (w : Option Window) (p : Phase) → is_over p ≡ true →
+    (k : ℕ) → In h s t p k w → (j : ℕ) → (n : ℕ) × In h s (t + j) p n w
+over_stays h s t w p over k e zero = (k, rw (add-zero t) e)
+over_stays h s t w p over k e (suc j) =
+    let (n, i) = over_stays h s t w p over k e j in
+    let d : Detector = passed (ears h (t + j)) in (
+      later n,
+      rw (add-suc t j) (step h s (t + j) p p n (later n) w w i
+          (ap (all_signed (h (suc (t + j)))) (over_settled p (make s p (later n) d w) over)
+          ∙ signs_other (h (suc (t + j))) s p (later n) d w (over_idle p over).0 (over_idle p over).1)),
+    )

@@ -1,5 +1,5 @@
 -- Two ends on a fair line: what the line promises, and what the two ends then come to.
-use Rattle.std.specs.Prelude.{◌≡◌, ℕ, zero, suc, ◌+◌, ◌-◌, ◌<◌, ◌≤◌, max, Bool, true, false, cond, not, ◌&&◌, ◌||◌, ◌⊎◌, List, [], ◌∷◌, ◌++◌, ◌==◌, ◌≢◌, nat_lt}
+use Rattle.std.specs.Prelude.{◌≡◌, ℕ, zero, suc, ◌+◌, ◌-◌, ◌<◌, ◌≤◌, max, Bool, true, false, cond, not, ◌&&◌, ◌||◌, ◌⊎◌, Some, Option, List, [], ◌∷◌, ◌++◌, ◌==◌, ◌≢◌, nat_lt}
 use Rattle.bringup.specs.declared.end.Phase.{Phase}
 use Rattle.bringup.specs.declared.rate.Rate.{Rate}
 use Rattle.bringup.specs.declared.rate.RateSet.{RateSet}
@@ -13,7 +13,7 @@ use Rattle.bringup.specs.declared.end.Activity.TheVariants.{Idle, Burst}
 use Rattle.bringup.specs.declared.end.Activity.TheVariants as sends
 use Rattle.bringup.specs.Bringup.{starting, noting, is_unstarted, signed, tick, sign_at, begun, unused}
 use Rattle.bringup.specs.Rates.{supports}
-use Rattle.bringup.specs.Asking.{activity, outcome_in}
+use Rattle.bringup.specs.Asking.{activity, latest_rate, outcome_in}
 
 -- An end after a start, and after a note, declined or not.
 abbrev pub started : ℕ → End → End
@@ -110,8 +110,8 @@ StartsBurst s t = (bursting s t ≡ false) × (bursting s (suc t) ≡ true)
 abbrev pub EndsBurst : Life → ℕ → Type 0
 EndsBurst s t = (bursting s t ≡ true) × (bursting s (suc t) ≡ false)
 
-abbrev pub rate_at : Life → ℕ → Rate
-rate_at s t = (state_at s t).window.rate
+abbrev pub rate_at : Life → ℕ → Option Rate
+rate_at s t = latest_rate (state_at s t).window
 
 -- tick t of `hearer` is `delay` ticks later than tick u of `other`
 abbrev pub Reaches : ℕ → Life → Life → ℕ → ℕ → Type 0
@@ -161,15 +161,17 @@ outcome_of s = outcome_in (present s).phase
 abbrev pub Over : Life → Type 0
 Over s = over (outcome_of s) ≡ true
 
-abbrev pub present_rate : Life → Rate
-present_rate s = (present s).window.rate
+abbrev pub present_rate : Life → Option Rate
+present_rate s = latest_rate (present s).window
 
 pub record BothReady (a b : Life) : Type 0 where
   pub first : outcome_of a ≡ outcome.Ready
   pub second : outcome_of b ≡ outcome.Ready
-  pub one_rate : present_rate a ≡ present_rate b
-  pub supported_first : supports a.rates (present_rate a) ≡ true
-  pub supported_second : supports b.rates (present_rate b) ≡ true
+  pub rate : Rate
+  pub rate_first : present_rate a ≡ Some rate
+  pub rate_second : present_rate b ≡ Some rate
+  pub supported_first : supports a.rates rate ≡ true
+  pub supported_second : supports b.rates rate ≡ true
 
 abbrev pub BothFailed : Life → Life → Type 0
 BothFailed a b = (outcome_of a ≡ outcome.Failed) × (outcome_of b ≡ outcome.Failed)
@@ -183,7 +185,8 @@ OpensWindow s t = (before : ℕ) × ((t ≡ suc before) × (rate_at s before ≢
 
 -- in each of its closed windows at a rate that both support, s notes a lock at most 313,425 ticks into the second part
 abbrev pub LocksInTime : Life → Life → Life → Type 0
-LocksInTime a b s = (w : ℕ) → OpensWindow s w → shared a b (rate_at s w) ≡ true → w + (960 + 327680) ≤ age s.notes → (k : ℕ) × ((k ≤ 313425) × Notes s Locked (w + 960 + k))
+LocksInTime a b s = (w : ℕ) (r : Rate) → OpensWindow s w → rate_at s w ≡ Some r → shared a b r ≡ true → w + (960 + 327680) ≤ age s.notes →
+    (k : ℕ) × ((k ≤ 313425) × Notes s Locked (w + 960 + k))
 
 -- both have lived for n ticks since the later start
 abbrev pub LivedFor : ℕ → Life → Life → Type 0

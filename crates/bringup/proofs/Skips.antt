@@ -1,18 +1,19 @@
 -- Ticks in which nothing comes due can be taken at once.
-use Rattle.std.proofs.Common.{◌≡◌, ℕ, zero, suc, ◌+◌, ◌-◌, ◌<◌, ◌≤◌, Bool, true, false, cond, ◌&&◌, ◌||◌, ltb, leb, refl, ap, ◌∙◌, subst, ap₂, inl, inr, zero-add, arith}
+use Rattle.std.proofs.Common.{◌≡◌, ℕ, zero, suc, ◌+◌, ◌-◌, ◌<◌, ◌≤◌, Bool, true, false, cond, ◌&&◌, ◌||◌, ltb, leb, sym, refl, ap, ◌∙◌, subst, ap₂, inl, inr, zero-add, arith}
 use Rattle.std.proofs.lemmas.Bool.{cond-true, cond-false, cond_both, lt-ltb, lt-leb, or_left, or_right, cases_Bool}
 use Rattle.std.proofs.lemmas.Bool.Decides.{nat_tests}
 use Rattle.bringup.specs.declared.detector.Detector.{Detector}
 use Rattle.bringup.specs.declared.end.Phase.{Phase}
 use Rattle.bringup.specs.declared.end.Phase.TheVariants.{Unstarted, SendingCominit, Awaiting, SendingComsas, Falling, Negotiating, Ready, Failed}
 use Rattle.bringup.specs.declared.rate.Rate.TheVariants.{G1}
+use Rattle.bringup.specs.declared.end.Standing.TheVariants.{AfterInvalid}
 use Rattle.bringup.specs.declared.end.End.{End}
 use Rattle.bringup.specs.Detection.{passed, longer}
 use Rattle.bringup.specs.Bringup.{tick, ticks, settled, aged, later, signalled, awaited, awaited_fall, entered, opened, closed_window}
 use Rattle.bringup.specs.Skipping.{capped, rested, skipped, detector_calm, phase_calm}
 
 -- so many ticks and then others are their sum
-pub ticks_add : (a b : ℕ) (e : End) → ticks (a + b) e ≡ ticks a (ticks b e)
+ticks_add : (a b : ℕ) (e : End) → ticks (a + b) e ≡ ticks a (ticks b e)
 ticks_add zero b e = ap (λ n. ticks n e) (zero-add b)
 ticks_add (suc a) b e = ap (λ n. ticks n e) (let z : suc a + b ≡ suc (a + b) = omega arith in z) ∙ ap tick (ticks_add a b e)
 
@@ -104,7 +105,7 @@ nothing_due SendingComsas k e h =
     cond-true (ltb (capped 328640 e.elapsed (suc k)) 23925) (skipped (suc k) e) (awaited_fall (skipped (suc k) e))
     (lt-ltb (capped 328640 e.elapsed (suc k)) 23925 (omega (arith, capped_below 328640 e.elapsed k 23924 h (omega arith))))
 nothing_due Falling k e h =
-    cond-false (rested (suc k) e.detector).fallen (opened G1 false false (skipped (suc k) e))
+    cond-false (rested (suc k) e.detector).fallen (opened G1 AfterInvalid (skipped (suc k) e))
     (cond ((rested (suc k) e.detector).comsas || ltb (capped 328640 e.elapsed (suc k)) 32640) (skipped (suc k) e) (entered Failed (skipped (suc k) e)))
     (rested_fallen (suc k) e.detector ∙ not_fallen)
     ∙ cond-true ((rested (suc k) e.detector).comsas || ltb (capped 328640 e.elapsed (suc k)) 32640) (skipped (suc k) e) (entered Failed (skipped (suc k) e)) in_time
@@ -122,7 +123,7 @@ nothing_due Falling k e h =
           lt-ltb (capped 328640 e.elapsed (suc k)) 32640 (omega (arith, capped_below 328640 e.elapsed k 32639 z (omega arith))))
     ]
 nothing_due Negotiating k e h =
-    cond-true (ltb (capped 328640 e.elapsed (suc k)) 328640) (skipped (suc k) e) (closed_window (skipped (suc k) e))
+    cond-true (ltb (capped 328640 e.elapsed (suc k)) 328640) (skipped (suc k) e) (closed_window e.window (skipped (suc k) e))
     (lt-ltb (capped 328640 e.elapsed (suc k)) 328640 (omega (arith, capped_below 328640 e.elapsed k 328639 h (omega arith))))
 nothing_due Ready k e h = refl
 nothing_due Failed k e h = refl
@@ -136,7 +137,7 @@ skipped_none e = go e.detector.burst refl
     go false q = rw (q, capped_none 328640 e.elapsed, capped_none 4725 e.detector.idle)
 
 -- so many ticks in which nothing comes due are one skip
-pub calm_ticks : (k : ℕ) (e : End) → k ≤ detector_calm e.detector → k ≤ phase_calm e.phase e → ticks k e ≡ skipped k e
+calm_ticks : (k : ℕ) (e : End) → k ≤ detector_calm e.detector → k ≤ phase_calm e.phase e → ticks k e ≡ skipped k e
 calm_ticks zero e d p = skipped_none e
 calm_ticks (suc k) e d p =
     ap tick (calm_ticks k e (omega arith) (omega arith))
@@ -146,3 +147,15 @@ calm_ticks (suc k) e d p =
     aged-skipped : aged (skipped k e) ≡ skipped (suc k) e
     aged-skipped = ap₂ (λ n x. record { rates = e.rates; phase = e.phase; elapsed = n; detector = x; window = e.window })
         (later-capped e.elapsed k) (passed-rested k e.detector d)
+
+-- with such a skip ahead, the ticks left are those that were to pass
+pub skip_ahead : (n k : ℕ) (e : End) → k ≤ n → k ≤ detector_calm e.detector → k ≤ phase_calm e.phase e → ticks (n - k) (skipped k e) ≡ ticks n e
+skip_ahead n k e le d p =
+    let z : n - k + k ≡ n = omega arith in
+    ap (ticks (n - k)) (sym (calm_ticks k e d p)) ∙ sym (ticks_add (n - k) k e) ∙ ap (λ m. ticks m e) z
+
+-- and so with one tick
+pub tick_ahead : (n : ℕ) (e : End) → 0 < n → ticks (n - 1) (tick e) ≡ ticks n e
+tick_ahead n e pos =
+    let z : n - 1 + 1 ≡ n = omega arith in
+    sym (ticks_add (n - 1) 1 e) ∙ ap (λ m. ticks m e) z

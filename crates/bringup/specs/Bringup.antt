@@ -1,13 +1,15 @@
 -- The meaning of one end's bring-up: what a tick and a sign do, and what the calls answer and leave.
-use Rattle.std.specs.Prelude.{ℕ, zero, suc, ◌+◌, Bool, true, false, cond, ◌&&◌, ◌||◌, Ok, Err, Result, ◌==◌, nat_le, nat_lt}
+use Rattle.std.specs.Prelude.{ℕ, zero, suc, ◌+◌, Bool, true, false, cond, ◌&&◌, ◌||◌, Some, None, Ok, Err, Option, Result, ◌==◌, nat_le, nat_lt}
 use Rattle.code.specs.Refusals.{Refusal, plain}
 use Rattle.bringup.specs.declared.detector.Detector.{Detector}
 use Rattle.bringup.specs.declared.rate.Rate.{Rate}
-use Rattle.bringup.specs.declared.rate.Rate.TheVariants.{NoRate, G1}
+use Rattle.bringup.specs.declared.rate.Rate.TheVariants.{G1}
 use Rattle.bringup.specs.declared.rate.RateSet.{RateSet}
 use Rattle.bringup.specs.declared.end.End.{End}
 use Rattle.bringup.specs.declared.end.Phase.{Phase}
 use Rattle.bringup.specs.declared.end.Phase.TheVariants.{Unstarted, SendingCominit, Awaiting, SendingComsas, Falling, Negotiating, Ready, Failed}
+use Rattle.bringup.specs.declared.end.Standing.{Standing}
+use Rattle.bringup.specs.declared.end.Standing.TheVariants.{AfterInvalid, AfterValid, Final}
 use Rattle.bringup.specs.declared.end.Window.{Window}
 use Rattle.bringup.specs.declared.end.Sign.{Sign}
 use Rattle.bringup.specs.declared.end.Sign.TheVariants as sign
@@ -24,13 +26,13 @@ abbrev pub entered : Phase → End → End
 entered p e = record { rates = e.rates; phase = p; elapsed = 0; detector = e.detector; window = e.window }
 
 -- A window opens.
-abbrev pub opened : Rate → Bool → Bool → End → End
-opened r last follows e = record {
+abbrev pub opened : Rate → Standing → End → End
+opened r standing e = record {
   rates = e.rates;
   phase = Negotiating;
   elapsed = 0;
   detector = e.detector;
-  window = record { rate = r; last = last; follows = follows; locked = false; aligned = false };
+  window = Some (record { rate = r; standing = standing; locked = false; aligned = false });
 }
 
 abbrev pub signalled : Detector → Bool
@@ -42,17 +44,24 @@ awaited e = cond (signalled e.detector) (entered SendingComsas e) (entered Await
 
 -- COMSAS is sent: the first window follows as soon as the other's has fallen.
 abbrev pub awaited_fall : End → End
-awaited_fall e = cond e.detector.fallen (opened G1 false false e) (entered Falling e)
+awaited_fall e = cond e.detector.fallen (opened G1 AfterInvalid e) (entered Falling e)
 
 -- What follows a window. After a valid one the next; after an invalid one, if the previous was valid, a final one at that
 -- rate; else failed if this was one above the highest supported rate; else the next. The final one gives ready or failed.
-abbrev pub closed_window : End → End
-closed_window e =
-    cond e.window.last (entered (cond e.window.aligned Ready Failed) e)
-    (cond e.window.aligned (opened (next_rate e.window.rate) false true e)
-    (cond e.window.follows (opened (previous_rate e.window.rate) true false e)
-    (cond (past_highest e.rates e.window.rate) (entered Failed e)
-    (opened (next_rate e.window.rate) false false e))))
+abbrev pub closing_as : Standing → Window → End → End
+closing_as AfterInvalid w e =
+    cond w.aligned (opened (next_rate w.rate) AfterValid e)
+    (cond (past_highest e.rates w.rate) (entered Failed e) (opened (next_rate w.rate) AfterInvalid e))
+closing_as AfterValid w e = cond w.aligned (opened (next_rate w.rate) AfterValid e) (opened (previous_rate w.rate) Final e)
+closing_as Final w e = entered (cond w.aligned Ready Failed) e
+
+abbrev pub closing : Window → End → End
+closing w e = closing_as w.standing w e
+
+-- The latest window closes.
+abbrev pub closed_window : Option Window → End → End
+closed_window None e = e
+closed_window (Some w) e = closing w e
 
 -- The transitions that are due, by the phase: COMINIT lasts 9,255 ticks, COMSAS 23,925, a window 960 + 327,680; and the
 -- end fails if 32,640 ticks pass after COMSAS with none detected.
@@ -62,9 +71,9 @@ settled SendingCominit e = cond (nat_lt e.elapsed 9255) e (awaited e)
 settled Awaiting e = cond (signalled e.detector) (entered SendingComsas e) e
 settled SendingComsas e = cond (nat_lt e.elapsed 23925) e (awaited_fall e)
 settled Falling e =
-    cond e.detector.fallen (opened G1 false false e)
+    cond e.detector.fallen (opened G1 AfterInvalid e)
     (cond (e.detector.comsas || nat_lt e.elapsed 32640) e (entered Failed e))
-settled Negotiating e = cond (nat_lt e.elapsed 328640) e (closed_window e)
+settled Negotiating e = cond (nat_lt e.elapsed 328640) e (closed_window e.window e)
 settled Ready e = e
 settled Failed e = e
 
@@ -97,7 +106,7 @@ abbrev pub detecting : Detector → End → End
 detecting d e = record { rates = e.rates; phase = e.phase; elapsed = e.elapsed; detector = d; window = e.window }
 
 abbrev pub in_window : Window → End → End
-in_window w e = record { rates = e.rates; phase = e.phase; elapsed = e.elapsed; detector = e.detector; window = w }
+in_window w e = record { rates = e.rates; phase = e.phase; elapsed = e.elapsed; detector = e.detector; window = Some w }
 
 abbrev pub is_awaiting : Phase → Bool
 is_awaiting Unstarted = false
@@ -130,15 +139,25 @@ is_unstarted Ready = false
 is_unstarted Failed = false
 
 -- A lock counts at a supported rate, at most 313,425 ticks into a window's second part, which starts at 960.
-abbrev pub lock_counts : End → Bool
-lock_counts e =
-    is_negotiating e.phase && (supports e.rates e.window.rate && (nat_le 960 e.elapsed && nat_le e.elapsed (960 + 313425)))
+abbrev pub lock_counts : Window → End → Bool
+lock_counts w e =
+    is_negotiating e.phase && (supports e.rates w.rate && (nat_le 960 e.elapsed && nat_le e.elapsed (960 + 313425)))
 
 abbrev pub locked_window : Window → Window
-locked_window w = record { rate = w.rate; last = w.last; follows = w.follows; locked = true; aligned = w.aligned }
+locked_window w = record { rate = w.rate; standing = w.standing; locked = true; aligned = w.aligned }
 
 abbrev pub aligned_window : Window → Window
-aligned_window w = record { rate = w.rate; last = w.last; follows = w.follows; locked = w.locked; aligned = true }
+aligned_window w = record { rate = w.rate; standing = w.standing; locked = w.locked; aligned = true }
+
+-- A lock in the latest window.
+abbrev pub locked_in : Option Window → End → End
+locked_in None e = e
+locked_in (Some w) e = cond (lock_counts w e) (in_window (locked_window w) e) e
+
+-- An ALIGN(1) in the latest window, which it makes valid if a lock counted before.
+abbrev pub aligned_in : Option Window → End → End
+aligned_in None e = e
+aligned_in (Some w) e = cond (is_negotiating e.phase && w.locked) (in_window (aligned_window w) e) e
 
 -- A sign with no place in the phase does nothing.
 abbrev pub signed : Sign → End → End
@@ -147,8 +166,8 @@ signed sign.BurstStarts e =
     cond (is_awaiting e.phase && signalled (risen e.detector))
     (entered SendingComsas (detecting (risen e.detector) e)) (detecting (risen e.detector) e)
 signed sign.BurstEnds e = detecting (ceased e.detector) e
-signed sign.Locked e = cond (lock_counts e) (in_window (locked_window e.window) e) e
-signed sign.Align1 e = cond (is_negotiating e.phase && e.window.locked) (in_window (aligned_window e.window) e) e
+signed sign.Locked e = locked_in e.window e
+signed sign.Align1 e = aligned_in e.window e
 
 -- Signs by number.
 abbrev pub sign_at : ℕ → Sign
@@ -166,8 +185,12 @@ note_refusal TooManyTicks = plain 10
 note_refusal SignOutside = plain 11
 note_refusal NotStarted = plain 12
 
-abbrev pub no_window : Window
-no_window = record { rate = NoRate; last = false; follows = false; locked = false; aligned = false }
+-- Rate sets by number, and signs by number, refused where there is none.
+abbrev pub rates_numbered : ℕ → Result RateSet StartRefusal
+rates_numbered n = cond (n == 0 || nat_lt 7 n) (Err RateSetOutside) (Ok (rate_set n))
+
+abbrev pub sign_numbered : ℕ → Result Sign NoteRefusal
+sign_numbered g = cond (nat_lt 4 g) (Err SignOutside) (Ok (sign_at g))
 
 -- An end that nobody has used.
 abbrev pub unused : End
@@ -176,12 +199,12 @@ unused = record {
   phase = Unstarted;
   elapsed = 0;
   detector = deaf;
-  window = no_window;
+  window = None;
 }
 
 -- An end just started.
 abbrev pub begun : RateSet → End
-begun rates = record { rates = rates; phase = SendingCominit; elapsed = 0; detector = deaf; window = no_window }
+begun rates = record { rates = rates; phase = SendingCominit; elapsed = 0; detector = deaf; window = None }
 
 -- An answer, and the end afterwards.
 pub record Called : Type 0 where

@@ -5,6 +5,7 @@ use Rattle.bringup.specs.declared.signal.Signal.TheVariants.{Comwake, Cominit, C
 use Rattle.bringup.specs.declared.rate.Rate.TheVariants.{G1}
 use Rattle.bringup.specs.declared.end.End.{End}
 use Rattle.bringup.specs.declared.end.Phase.TheVariants.{Negotiating}
+use Rattle.bringup.specs.declared.end.Standing.TheVariants.{AfterInvalid}
 use Rattle.bringup.specs.declared.end.Activity.{Activity}
 use Rattle.bringup.specs.declared.end.Activity.TheVariants.{Align0, Align1}
 use Rattle.bringup.specs.Detection.{signal_of, deaf}
@@ -19,7 +20,7 @@ in_first_window n = record {
   phase = Negotiating;
   elapsed = n;
   detector = deaf;
-  window = record { rate = G1; last = false; follows = false; locked = false; aligned = false };
+  window = Some (record { rate = G1; standing = AfterInvalid; locked = false; aligned = false });
 }
 
 -- What that end sends when it notes there that it is locked: ALIGN(1) if the lock counts.

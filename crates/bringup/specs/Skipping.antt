@@ -1,5 +1,5 @@
 -- Many ticks at once, while nothing comes due.
-use Rattle.std.specs.Prelude.{ℕ, ◌+◌, ◌-◌, cond, not, ◌||◌, nat_le, nat_lt}
+use Rattle.std.specs.Prelude.{ℕ, ◌+◌, ◌-◌, Bool, false, cond, not, ◌||◌, Some, None, Option, nat_le, nat_lt}
 use Rattle.bringup.specs.declared.detector.Detector.{Detector}
 use Rattle.bringup.specs.declared.end.End.{End}
 use Rattle.bringup.specs.declared.end.Phase.{Phase}
@@ -35,6 +35,21 @@ skipped k e = record {
   detector = rested k e.detector;
   window = e.window;
 }
+
+-- How long a phase lasts, if it ends by itself; an end that has detected COMSAS waits for its fall.
+abbrev pub timer : Phase → End → Option ℕ
+timer Unstarted e = None
+timer SendingCominit e = Some 9255
+timer Awaiting e = None
+timer SendingComsas e = Some 23925
+timer Falling e = cond e.detector.comsas None (Some 32640)
+timer Negotiating e = Some 328640
+timer Ready e = None
+timer Failed e = None
+
+abbrev pub has_run_out : Option ℕ → ℕ → Bool
+has_run_out None t = false
+has_run_out (Some n) t = nat_le n t
 
 -- For how many ticks the phase brings nothing new.
 abbrev pub phase_calm : Phase → End → ℕ

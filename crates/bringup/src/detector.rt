@@ -1,8 +1,10 @@
 // What an end has heard of the other's signals.
 ghost use Rattle.std.specs.Prelude.{◌≡◌};
 ghost use Rattle.bringup.specs.Detection.{signal_of, alike_after, passed, risen, ceased};
+ghost use Rattle.bringup.specs.Bringup.{signalled};
 ghost use Rattle.bringup.specs.Skipping.{capped, rested, detector_calm};
 
+use crate::end::MOST_TICKS;
 use crate::signal::Signal;
 
 // From this many ticks on an idle is no signal's.
@@ -10,7 +12,7 @@ const LONGEST_IDLE: u32 = 4_725;
 
 // The idle so far, counted up to the longest that matters; whether a burst is heard; what the latest closed idle was of,
 // and how many like it stand in a row, up to four; which signals are detected; and whether COMSAS has fallen since.
-#[derive(Clone, Copy)]
+#[derive(Clone, Copy, PartialEq, Eq, Debug, Default)]
 pub struct Detector {
     pub idle: u32,
     pub burst: bool,
@@ -25,16 +27,11 @@ pub struct Detector {
 fn signal_of(idle: u32) -> Option<Signal>
     ensures { result ≡ signal_of idle }
 {
-    if idle < 165 {
-        None
-    } else if idle < 525 {
-        Some(Signal::Comwake)
-    } else if idle < 1_575 {
-        Some(Signal::Cominit)
-    } else if idle < LONGEST_IDLE {
-        Some(Signal::Comsas)
-    } else {
-        None
+    match idle {
+        165..525 => Some(Signal::Comwake),
+        525..1_575 => Some(Signal::Cominit),
+        1_575..LONGEST_IDLE => Some(Signal::Comsas),
+        _ => None,
     }
 }
 
@@ -42,18 +39,19 @@ fn signal_of(idle: u32) -> Option<Signal>
 fn alike_after(signal: Option<Signal>, before: Option<Signal>, count: u8) -> u8
     ensures { result ≡ alike_after signal before count }
 {
-    match (signal, before) {
-        (None, _) => 0,
-        (Some(Signal::Comwake), Some(Signal::Comwake))
-        | (Some(Signal::Cominit), Some(Signal::Cominit))
-        | (Some(Signal::Comsas), Some(Signal::Comsas)) => {
-            if count < 4 { count + 1 } else { count }
-        }
-        _ => 1,
+    if signal.is_none() {
+        0
+    } else if signal != before {
+        1
+    } else if count < 4 {
+        count + 1
+    } else {
+        count
     }
 }
 
 // `from` counted up by `count`, to at most `cap`.
+// Kept: `from + count.min(cap.saturating_sub(from))` makes each note a tenth slower.
 pub fn count_up(cap: u32, from: u32, count: u32) -> u32
     ensures { result ≡ capped cap from count }
 {
@@ -67,6 +65,13 @@ pub fn count_up(cap: u32, from: u32, count: u32) -> u32
 }
 
 impl Detector {
+    // Whether COMINIT or COMSAS has been detected.
+    pub fn has_detected(&self) -> bool
+        ensures { result ≡ signalled self.now }
+    {
+        self.cominit || self.comsas
+    }
+
     // A tick goes by.
     pub fn pass(&mut self)
         ensures { self.new ≡ passed self.old }
@@ -116,9 +121,9 @@ impl Detector {
         ensures { result ≡ detector_calm self.now }
     {
         if self.burst || !self.comsas || self.fallen {
-            400_000
+            MOST_TICKS
         } else {
-            4_724u32.saturating_sub(self.idle)
+            (LONGEST_IDLE - 1).saturating_sub(self.idle)
         }
     }
 

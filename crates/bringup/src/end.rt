@@ -2,11 +2,15 @@
 use crate::detector::Detector;
 use crate::rate::{Rate, RateSet};
 
+// The most ticks that a note takes.
+pub(crate) const MOST_TICKS: u32 = 400_000;
+
 pub mod asking;
 pub mod examples;
 pub mod noting;
+mod shown;
 
-#[derive(Clone, Copy)]
+#[derive(Clone, Copy, PartialEq, Eq, Debug)]
 pub enum Phase {
     Unstarted,
     SendingCominit,
@@ -20,19 +24,26 @@ pub enum Phase {
     Failed,
 }
 
-// The latest speed negotiation window: whether it is the final one, whether the one before it was valid, whether a lock
-// counted in it, and whether an ALIGN(1) was noted after that, which makes it valid.
-#[derive(Clone, Copy)]
+// Where a window stands in the sequence: first or after an invalid one, after a valid one, or last of all.
+#[derive(Clone, Copy, PartialEq, Eq, Debug)]
+pub enum Standing {
+    AfterInvalid,
+    AfterValid,
+    Final,
+}
+
+// A speed negotiation window: whether a lock counted in it, and whether an ALIGN(1) was noted after that, which makes it
+// valid.
+#[derive(Clone, Copy, PartialEq, Eq, Debug)]
 pub struct Window {
     pub rate: Rate,
-    pub last: bool,
-    pub follows: bool,
+    pub standing: Standing,
     pub locked: bool,
     pub aligned: bool,
 }
 
 // What is noted of the other end.
-#[derive(Clone, Copy)]
+#[derive(Clone, Copy, PartialEq, Eq, Debug)]
 pub enum Sign {
     Nothing,
     BurstStarts,
@@ -42,7 +53,7 @@ pub enum Sign {
 }
 
 // What an end sends.
-#[derive(Clone, Copy)]
+#[derive(Clone, Copy, PartialEq, Eq, Debug)]
 pub enum Activity {
     Idle,
     Burst,
@@ -50,19 +61,19 @@ pub enum Activity {
     Align1,
 }
 
-#[derive(Clone, Copy)]
+#[derive(Clone, Copy, PartialEq, Eq, Debug)]
 pub enum Outcome {
     Pending,
     Ready,
     Failed,
 }
 
-// `elapsed` counts the ticks of the phase, up to the longest that matters.
+// `elapsed` counts the ticks of the phase, up to the longest that matters; before the first window there is none.
 #[derive(Drop)]
 pub struct End {
     rates: RateSet,
     phase: Phase,
     elapsed: u32,
     detector: Detector,
-    window: Window,
+    window: Option<Window>,
 }

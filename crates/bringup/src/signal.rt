@@ -1,29 +1,30 @@
 // The signals before the first character: bursts with idles between them, told apart by how long the idles last.
 ghost use Rattle.std.specs.Prelude.{◌≡◌, ◌+◌, ◌≤◌, ◌++◌, length, drop};
 ghost use Rattle.code.specs.Refusals.{numbered};
-ghost use Rattle.bringup.specs.Signals.{idle_of, closing_of, times_of, written_at, signal_at, signal_refusal, signal_writing};
+ghost use Rattle.bringup.specs.Signals.{idle_of, closing_of, whole_of, times_of, written_at, signal_at, signal_refusal, signal_writing};
+
+use code::refusal::Refusal;
 
 // Ticks, thirds of a nanosecond, that a burst lasts.
-const BURST: u32 = 320;
+pub const BURST_TICKS: u32 = 320;
 
-#[derive(Clone, Copy)]
+#[derive(Clone, Copy, PartialEq, Eq, Debug)]
 pub enum Signal {
     Comwake,
     Cominit,
     Comsas,
 }
 
-#[derive(Clone, Copy)]
+#[derive(Clone, Copy, PartialEq, Eq, Debug)]
 pub enum SignalRefusal {
     NoSuchSignal,
     TooFewPlaces,
 }
 
-impl SignalRefusal {
-    // The number that the refusal goes by.
-    pub fn number(self) -> u8
-        ensures { result ≡ (signal_refusal self).number }
-    {
+impl Refusal for SignalRefusal {
+    ghost number_of = { λ r. (signal_refusal r).number };
+
+    fn number(&self) -> u8 {
         match self {
             SignalRefusal::NoSuchSignal => 18,
             SignalRefusal::TooFewPlaces => 19,
@@ -31,19 +32,23 @@ impl SignalRefusal {
     }
 }
 
-impl Signal {
-    // The signal of a number: 0 COMWAKE, 1 COMINIT, 2 COMSAS.
-    pub fn numbered(number: u8) -> Option<Signal>
-        ensures { result ≡ signal_at number }
-    {
+// The signal of a number: 0 COMWAKE, 1 COMINIT, 2 COMSAS.
+impl TryFrom<u8> for Signal {
+    type Error = SignalRefusal;
+
+    ghost try_from_gives = { λ number result. result ≡ signal_at number };
+
+    fn try_from(number: u8) -> Result<Signal, SignalRefusal> {
         match number {
-            0 => Some(Signal::Comwake),
-            1 => Some(Signal::Cominit),
-            2 => Some(Signal::Comsas),
-            _ => None,
+            0 => Ok(Signal::Comwake),
+            1 => Ok(Signal::Cominit),
+            2 => Ok(Signal::Comsas),
+            _ => Err(SignalRefusal::NoSuchSignal),
         }
     }
+}
 
+impl Signal {
     // How long each idle before a burst lasts when the signal is sent.
     pub fn idle(self) -> u32
         ensures { result ≡ idle_of self }
@@ -65,6 +70,13 @@ impl Signal {
             Signal::Comsas => 4_725,
         }
     }
+
+    // How long the whole signal lasts: six idles and bursts, and the closing idle.
+    pub fn ticks(self) -> u32
+        ensures { result ≡ whole_of self }
+    {
+        6 * (self.idle() + BURST_TICKS) + self.closing_idle()
+    }
 }
 
 // Writes the thirteen times of a signal over the first places.
@@ -75,17 +87,17 @@ fn write_times(tail: &mut [u32], signal: Signal)
     let idle = signal.idle();
     let times = [
         idle,
-        BURST,
+        BURST_TICKS,
         idle,
-        BURST,
+        BURST_TICKS,
         idle,
-        BURST,
+        BURST_TICKS,
         idle,
-        BURST,
+        BURST_TICKS,
         idle,
-        BURST,
+        BURST_TICKS,
         idle,
-        BURST,
+        BURST_TICKS,
         signal.closing_idle(),
     ];
     tail[0..13].copy_from_slice(&times);
@@ -100,13 +112,12 @@ fn write_from(memory: &mut [u32], place: usize, signal: Signal)
 }
 
 // Fills 13 numbers of memory, from the place on, with the times of a signal in sending order.
+// Kept: a number for the signal, which is refused by number.
 pub fn write_signal(number: u8, memory: &mut [u32], place: usize) -> Result<(), SignalRefusal>
     ensures answer { numbered signal_refusal result ≡ (signal_writing number place memory.old).answer }
     ensures memory { memory.new ≡ (signal_writing number place memory.old).memory }
 {
-    let Some(signal) = Signal::numbered(number) else {
-        return Err(SignalRefusal::NoSuchSignal);
-    };
+    let signal = Signal::try_from(number)?;
     if place > memory.len() || memory.len() - place < 13 {
         return Err(SignalRefusal::TooFewPlaces);
     }

@@ -1,18 +1,18 @@
 // What can be asked of an end.
 ghost use Rattle.std.specs.Prelude.{◌≡◌, ◌≤◌};
-ghost use Rattle.bringup.specs.Rates.{rate_number};
 ghost use Rattle.bringup.specs.Signals.{idle_of};
-ghost use Rattle.bringup.specs.Asking.{activity, sending, in_burst, sending_window, outcome_in};
+ghost use Rattle.bringup.specs.Asking.{activity, sending, in_burst, sending_window, told_rate, outcome_in};
 
+use crate::end::noting::WINDOW_IDLE;
 use crate::end::{Activity, End, Outcome, Phase};
-use crate::signal::Signal;
+use crate::signal::{BURST_TICKS, Signal};
 
-// Six times an idle and a burst of 320 ticks, then idle, at tick `elapsed` of it.
+// Six times an idle and a burst, then idle, at tick `elapsed` of it.
 fn signalling(signal: Signal, elapsed: u32) -> Activity
     ensures { result ≡ sending (in_burst (idle_of signal) elapsed) }
 {
     let idle = signal.idle();
-    let period = idle + 320;
+    let period = idle + BURST_TICKS;
     if elapsed < 6 * period && elapsed % period >= idle {
         Activity::Burst
     } else {
@@ -34,22 +34,25 @@ impl End {
     }
 
     fn sends_in_window(&self) -> Activity
-        ensures { result ≡ sending_window self.now }
+        ensures { result ≡ sending_window self.now.window self.now }
     {
-        if !self.rates.supports(self.window.rate) || self.elapsed < 960 {
-            Activity::Idle
-        } else if self.window.locked {
-            Activity::Align1
-        } else {
-            Activity::Align0
+        match self.window {
+            Some(window) if self.rates.supports(window.rate) && self.elapsed >= WINDOW_IDLE => {
+                if window.locked {
+                    Activity::Align1
+                } else {
+                    Activity::Align0
+                }
+            }
+            _ => Activity::Idle,
         }
     }
 
     // The latest window's rate, 1 to 4, or 0 before any.
     pub fn rate(&self) -> u8
-        ensures { result ≡ rate_number self.now.window.rate }
+        ensures { result ≡ told_rate self.now.window }
     {
-        self.window.rate.number()
+        self.window.map_or(0, |window| u8::from(window.rate))
     }
 
     // Whether the end is ready, failed or neither.

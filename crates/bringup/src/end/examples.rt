@@ -3,7 +3,7 @@ ghost use Rattle.std.specs.Prelude.{◌≡◌, true};
 ghost use Rattle.bringup.specs.Detection.{signal_of};
 ghost use Rattle.bringup.specs.Examples.{in_first_window, sent_after_lock, Examples};
 
-use crate::end::{Activity, End, Phase, Window};
+use crate::end::{Activity, End, Standing};
 use crate::rate::{Rate, RateSet};
 use crate::signal::Signal;
 
@@ -22,16 +22,13 @@ fn in_first_window(ticks: u32) -> End
     ensures { result ≡ in_first_window ticks }
 {
     let mut end = End::new();
-    end.rates = RateSet::numbered(7);
-    end.phase = Phase::Negotiating;
-    end.elapsed = ticks;
-    end.window = Window {
-        rate: Rate::G1,
-        last: false,
-        follows: false,
-        locked: false,
-        aligned: false,
+    end.rates = RateSet {
+        g1: true,
+        g2: true,
+        g3: true,
     };
+    end.open_window(Rate::G1, Standing::AfterInvalid);
+    end.elapsed = ticks;
     end
 }
 
@@ -44,34 +41,29 @@ fn sent_after_lock(ticks: u32) -> Activity
     end.sends()
 }
 
+// At the edges each idle is of its signal, or of none.
+fn idles_hold() -> bool
+    ensures { result ≡ true }
+{
+    signal_after(164) == None
+        && signal_after(165) == Some(Signal::Comwake)
+        && signal_after(525) == Some(Signal::Cominit)
+        && signal_after(1_575) == Some(Signal::Comsas)
+        && signal_after(4_725) == None
+}
+
+// The latest lock in time counts, and one a tick later does not.
+fn locks_hold() -> bool
+    ensures { result ≡ true }
+{
+    sent_after_lock(960 + 313_425) == Activity::Align1
+        && sent_after_lock(960 + 313_426) == Activity::Align0
+}
+
 // Runs the worked examples.
 pub fn examples_hold() -> bool
     ensures hold { result ≡ true }
     ensures examples { Examples }
 {
-    if !code::examples_hold() {
-        return false;
-    }
-    let None = signal_after(164) else {
-        return false;
-    };
-    let Some(Signal::Comwake) = signal_after(165) else {
-        return false;
-    };
-    let Some(Signal::Cominit) = signal_after(525) else {
-        return false;
-    };
-    let Some(Signal::Comsas) = signal_after(1_575) else {
-        return false;
-    };
-    let None = signal_after(4_725) else {
-        return false;
-    };
-    let Activity::Align1 = sent_after_lock(960 + 313_425) else {
-        return false;
-    };
-    let Activity::Align0 = sent_after_lock(960 + 313_426) else {
-        return false;
-    };
-    true
+    idles_hold() && locks_hold() && code::examples_hold()
 }

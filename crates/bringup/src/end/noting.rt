@@ -1,47 +1,42 @@
 // Starting an end, and noting what it hears: time passes tick by tick, and then the sign follows.
 ghost use Rattle.std.specs.Prelude.{◌≡◌, ◌≤◌};
 ghost use Rattle.code.specs.Refusals.{numbered};
-ghost use Rattle.bringup.specs.Bringup.{entered, opened, awaited, awaited_fall, closed_window, settled, tick, ticks, signed, sign_at, unused, start_refusal, note_refusal, starting, noting};
-ghost use Rattle.bringup.specs.Skipping.{skipped, detector_calm, phase_calm};
+ghost use Rattle.bringup.specs.Bringup.{entered, opened, awaited, awaited_fall, closed_window, settled, tick, ticks, signed, sign_numbered, unused, start_refusal, note_refusal, starting, noting};
+ghost use Rattle.bringup.specs.Skipping.{skipped, detector_calm, timer, has_run_out, phase_calm};
 
 use crate::detector::{Detector, count_up};
-use crate::end::{End, Phase, Sign, Window};
+use crate::end::{End, MOST_TICKS, Phase, Sign, Standing, Window};
 use crate::rate::{Rate, RateSet};
+use crate::signal::Signal;
+use code::refusal::Refusal;
 
-// How long COMINIT and COMSAS are sent, how long an end waits after COMSAS for the other's, and how long a window lasts.
-const COMINIT_TICKS: u32 = 9_255;
-
-const COMSAS_TICKS: u32 = 23_925;
-
+// How long an end waits after COMSAS for the other's.
 const COMSAS_WAIT: u32 = 32_640;
 
-const WINDOW_TICKS: u32 = 328_640;
+// A window is idle at first; how long it lasts, and until when a lock counts.
+pub(crate) const WINDOW_IDLE: u32 = 960;
 
-// The second part of a window begins here, and a lock counts up to there.
-const WINDOW_IDLE: u32 = 960;
+const WINDOW_TICKS: u32 = WINDOW_IDLE + 327_680;
 
-const LATEST_LOCK: u32 = 314_385;
+const LATEST_LOCK: u32 = WINDOW_IDLE + 313_425;
 
-const MOST_TICKS: u32 = 400_000;
-
-#[derive(Clone, Copy)]
+#[derive(Clone, Copy, PartialEq, Eq, Debug)]
 pub enum StartRefusal {
     RateSetOutside,
     StartedBefore,
 }
 
-#[derive(Clone, Copy)]
+#[derive(Clone, Copy, PartialEq, Eq, Debug)]
 pub enum NoteRefusal {
     TooManyTicks,
     SignOutside,
     NotStarted,
 }
 
-impl StartRefusal {
-    // The number that the refusal goes by.
-    pub fn number(self) -> u8
-        ensures { result ≡ (start_refusal self).number }
-    {
+impl Refusal for StartRefusal {
+    ghost number_of = { λ r. (start_refusal r).number };
+
+    fn number(&self) -> u8 {
         match self {
             StartRefusal::RateSetOutside => 8,
             StartRefusal::StartedBefore => 9,
@@ -49,11 +44,10 @@ impl StartRefusal {
     }
 }
 
-impl NoteRefusal {
-    // The number that the refusal goes by.
-    pub fn number(self) -> u8
-        ensures { result ≡ (note_refusal self).number }
-    {
+impl Refusal for NoteRefusal {
+    ghost number_of = { λ r. (note_refusal r).number };
+
+    fn number(&self) -> u8 {
         match self {
             NoteRefusal::TooManyTicks => 10,
             NoteRefusal::SignOutside => 11,
@@ -62,15 +56,21 @@ impl NoteRefusal {
     }
 }
 
-fn sign_numbered(number: u8) -> Sign
-    ensures { result ≡ sign_at number }
-{
-    match number {
-        1 => Sign::BurstStarts,
-        2 => Sign::BurstEnds,
-        3 => Sign::Locked,
-        4 => Sign::Align1,
-        _ => Sign::Nothing,
+// The sign of a number: 0 nothing, 1 a burst starts, 2 a burst ends, 3 locked, 4 ALIGN(1).
+impl TryFrom<u8> for Sign {
+    type Error = NoteRefusal;
+
+    ghost try_from_gives = { λ number result. result ≡ sign_numbered number };
+
+    fn try_from(number: u8) -> Result<Sign, NoteRefusal> {
+        match number {
+            0 => Ok(Sign::Nothing),
+            1 => Ok(Sign::BurstStarts),
+            2 => Ok(Sign::BurstEnds),
+            3 => Ok(Sign::Locked),
+            4 => Ok(Sign::Align1),
+            _ => Err(NoteRefusal::SignOutside),
+        }
     }
 }
 
@@ -80,50 +80,32 @@ impl End {
         ensures { result ≡ unused }
     {
         End {
-            rates: RateSet {
-                g1: false,
-                g2: false,
-                g3: false,
-            },
+            rates: RateSet::default(),
             phase: Phase::Unstarted,
             elapsed: 0,
-            detector: Detector {
-                idle: 0,
-                burst: false,
-                signal: None,
-                alike: 0,
-                cominit: false,
-                comsas: false,
-                fallen: false,
-            },
-            window: Window {
-                rate: Rate::NoRate,
-                last: false,
-                follows: false,
-                locked: false,
-                aligned: false,
-            },
+            detector: Detector::default(),
+            window: None,
         }
     }
 
     // Starts the end with a set of rates, in which G1 counts 1, G2 2 and G3 4.
+    // Kept: a number for the set, which is refused by number.
     pub fn start(&mut self, rates: u8) -> Result<(), StartRefusal>
         ensures answer { numbered start_refusal result ≡ (starting rates self.old).answer }
         ensures end { self.new ≡ (starting rates self.old).end }
     {
-        if rates == 0 || rates > 7 {
-            return Err(StartRefusal::RateSetOutside);
-        }
-        let Phase::Unstarted = self.phase else {
+        let rates = RateSet::try_from(rates)?;
+        if self.phase != Phase::Unstarted {
             return Err(StartRefusal::StartedBefore);
-        };
+        }
         *self = End::new();
-        self.rates = RateSet::numbered(rates);
+        self.rates = rates;
         self.phase = Phase::SendingCominit;
         Ok(())
     }
 
     // So many ticks pass, and then the sign is noted: 0 nothing, 1 a burst starts, 2 a burst ends, 3 locked, 4 ALIGN(1).
+    // Kept: a number for the sign, which is refused by number.
     pub fn note(&mut self, ticks: u32, sign: u8) -> Result<(), NoteRefusal>
         ensures answer { numbered note_refusal result ≡ (noting ticks sign self.old).answer }
         ensures end { self.new ≡ (noting ticks sign self.old).end }
@@ -131,14 +113,12 @@ impl End {
         if ticks > MOST_TICKS {
             return Err(NoteRefusal::TooManyTicks);
         }
-        if sign > 4 {
-            return Err(NoteRefusal::SignOutside);
-        }
-        if let Phase::Unstarted = self.phase {
+        let sign = Sign::try_from(sign)?;
+        if self.phase == Phase::Unstarted {
             return Err(NoteRefusal::NotStarted);
         }
         self.advance(ticks);
-        self.sign(sign_numbered(sign));
+        self.sign(sign);
         Ok(())
     }
 
@@ -149,25 +129,24 @@ impl End {
         self.elapsed = 0;
     }
 
-    fn open_window(&mut self, rate: Rate, last: bool, follows: bool)
-        ensures { self.new ≡ opened rate last follows self.old }
+    pub(crate) fn open_window(&mut self, rate: Rate, standing: Standing)
+        ensures { self.new ≡ opened rate standing self.old }
     {
         self.phase = Phase::Negotiating;
         self.elapsed = 0;
-        self.window = Window {
+        self.window = Some(Window {
             rate,
-            last,
-            follows,
+            standing,
             locked: false,
             aligned: false,
-        };
+        });
     }
 
     // COMINIT is sent.
     fn after_cominit(&mut self)
         ensures { self.new ≡ awaited self.old }
     {
-        if self.detector.cominit || self.detector.comsas {
+        if self.detector.has_detected() {
             self.enter(Phase::SendingComsas);
         } else {
             self.enter(Phase::Awaiting);
@@ -179,63 +158,62 @@ impl End {
         ensures { self.new ≡ awaited_fall self.old }
     {
         if self.detector.fallen {
-            self.open_window(Rate::G1, false, false);
+            self.open_window(Rate::G1, Standing::AfterInvalid);
         } else {
             self.enter(Phase::Falling);
         }
     }
 
     fn close_window(&mut self)
-        ensures { self.new ≡ closed_window self.old }
+        ensures { self.new ≡ closed_window self.old.window self.old }
     {
-        let rate = self.window.rate;
-        let valid = self.window.aligned;
-        if self.window.last {
-            self.enter(if valid { Phase::Ready } else { Phase::Failed });
-        } else if valid {
-            self.open_window(rate.next(), false, true);
-        } else if self.window.follows {
-            self.open_window(rate.previous(), true, false);
-        } else if self.rates.ends_below(rate) {
-            self.enter(Phase::Failed);
-        } else {
-            self.open_window(rate.next(), false, false);
+        let Some(window) = self.window else { return };
+        let rate = window.rate;
+        match (window.standing, window.aligned) {
+            (Standing::Final, true) => self.enter(Phase::Ready),
+            (Standing::Final, false) => self.enter(Phase::Failed),
+            (_, true) => self.open_window(rate.next(), Standing::AfterValid),
+            (Standing::AfterValid, false) => self.open_window(rate.previous(), Standing::Final),
+            (_, false) if self.rates.ends_below(rate) => self.enter(Phase::Failed),
+            (_, false) => self.open_window(rate.next(), Standing::AfterInvalid),
         }
     }
 
-    // The transitions that are due.
+    // How long the phase lasts, if it ends by itself.
+    fn timer(&self) -> Option<u32>
+        ensures { result ≡ timer self.now.phase self.now }
+    {
+        match self.phase {
+            Phase::SendingCominit => Some(Signal::Cominit.ticks()),
+            Phase::SendingComsas => Some(Signal::Comsas.ticks()),
+            Phase::Falling if !self.detector.comsas => Some(COMSAS_WAIT),
+            Phase::Negotiating => Some(WINDOW_TICKS),
+            _ => None,
+        }
+    }
+
+    // Whether the phase has lasted so long.
+    fn is_over(&self) -> bool
+        ensures { result ≡ has_run_out (timer self.now.phase self.now) self.now.elapsed }
+    {
+        self.timer().is_some_and(|ticks| self.elapsed >= ticks)
+    }
+
+    // The transition that is due, if one is.
     fn settle(&mut self)
         ensures { self.new ≡ settled self.old.phase self.old }
     {
         match self.phase {
-            Phase::SendingCominit => {
-                if self.elapsed >= COMINIT_TICKS {
-                    self.after_cominit();
-                }
-            }
-            Phase::Awaiting => {
-                if self.detector.cominit || self.detector.comsas {
-                    self.enter(Phase::SendingComsas);
-                }
-            }
-            Phase::SendingComsas => {
-                if self.elapsed >= COMSAS_TICKS {
-                    self.after_comsas();
-                }
-            }
-            Phase::Falling => {
-                if self.detector.fallen {
-                    self.open_window(Rate::G1, false, false);
-                } else if !self.detector.comsas && self.elapsed >= COMSAS_WAIT {
-                    self.enter(Phase::Failed);
-                }
-            }
-            Phase::Negotiating => {
-                if self.elapsed >= WINDOW_TICKS {
-                    self.close_window();
-                }
-            }
-            Phase::Unstarted | Phase::Ready | Phase::Failed => {}
+            Phase::SendingCominit if self.is_over() => self.after_cominit(),
+            Phase::Awaiting if self.detector.has_detected() => self.enter(Phase::SendingComsas),
+            Phase::SendingComsas if self.is_over() => self.after_comsas(),
+            Phase::Falling if self.detector.fallen => self.open_window(
+                Rate::G1,
+                Standing::AfterInvalid,
+            ),
+            Phase::Falling if self.is_over() => self.enter(Phase::Failed),
+            Phase::Negotiating if self.is_over() => self.close_window(),
+            _ => {}
         }
     }
 
@@ -256,49 +234,54 @@ impl End {
             Sign::Nothing => {}
             Sign::BurstStarts => {
                 self.detector.rise();
-                if let Phase::Awaiting = self.phase {
-                    if self.detector.cominit || self.detector.comsas {
-                        self.enter(Phase::SendingComsas);
-                    }
+                if self.phase == Phase::Awaiting && self.detector.has_detected() {
+                    self.enter(Phase::SendingComsas);
                 }
             }
             Sign::BurstEnds => self.detector.cease(),
             Sign::Locked => self.lock(),
-            Sign::Align1 => {
-                if let Phase::Negotiating = self.phase {
-                    if self.window.locked {
-                        self.window.aligned = true;
-                    }
-                }
-            }
+            Sign::Align1 => self.align(),
         }
     }
 
     fn lock(&mut self)
         ensures { self.new ≡ signed Sign.Locked self.old }
     {
-        if let Phase::Negotiating = self.phase {
-            if self.rates.supports(self.window.rate)
-                && self.elapsed >= WINDOW_IDLE
-                && self.elapsed <= LATEST_LOCK
-            {
-                self.window.locked = true;
-            }
+        if self.phase != Phase::Negotiating {
+            return;
+        }
+        if let Some(window) = &mut self.window
+            && self.rates.supports(window.rate)
+            && self.elapsed >= WINDOW_IDLE
+            && self.elapsed <= LATEST_LOCK
+        {
+            window.locked = true;
+        }
+    }
+
+    fn align(&mut self)
+        ensures { self.new ≡ signed Sign.Align1 self.old }
+    {
+        if self.phase != Phase::Negotiating {
+            return;
+        }
+        if let Some(window) = &mut self.window
+            && window.locked
+        {
+            window.aligned = true;
         }
     }
 
     // So many ticks, from one transition to the next.
     fn advance(&mut self, count: u32)
-        requires { count ≤ 400000 }
         ensures { self.new ≡ ticks count self.old }
     {
         let mut left = count;
         while left > 0 {
             let calm = self.calm(left);
-            if calm > 0 {
-                self.skip(calm);
-                left -= calm;
-            } else {
+            self.skip(calm);
+            left -= calm;
+            if left > 0 {
                 self.tick();
                 left -= 1;
             }
@@ -318,26 +301,9 @@ impl End {
         ensures { result ≡ phase_calm self.now.phase self.now }
     {
         match self.phase {
-            Phase::SendingCominit => (COMINIT_TICKS - 1).saturating_sub(self.elapsed),
-            Phase::Awaiting => {
-                if self.detector.cominit || self.detector.comsas {
-                    0
-                } else {
-                    MOST_TICKS
-                }
-            }
-            Phase::SendingComsas => (COMSAS_TICKS - 1).saturating_sub(self.elapsed),
-            Phase::Falling => {
-                if self.detector.fallen {
-                    0
-                } else if self.detector.comsas {
-                    MOST_TICKS
-                } else {
-                    (COMSAS_WAIT - 1).saturating_sub(self.elapsed)
-                }
-            }
-            Phase::Negotiating => (WINDOW_TICKS - 1).saturating_sub(self.elapsed),
-            Phase::Unstarted | Phase::Ready | Phase::Failed => MOST_TICKS,
+            Phase::Awaiting if self.detector.has_detected() => 0,
+            Phase::Falling if self.detector.fallen => 0,
+            _ => self.timer().map_or(MOST_TICKS, |ticks| (ticks - 1).saturating_sub(self.elapsed)),
         }
     }
 

@@ -1,20 +1,19 @@
-use Rattle.std.proofs.Common.{◌≡◌, ◌+◌, ◌-◌, sym, ap, ◌∙◌, arith}
+use Rattle.std.proofs.Common.{◌-◌, ap, ◌∙◌}
 use Rattle.bringup.specs.Bringup.{ticks}
-use Rattle.bringup.proofs.Skips.{ticks_add, calm_ticks}
+use Rattle.bringup.proofs.Skips.{skip_ahead, tick_ahead}
 use Rattle.bringup.proofs.end.End.advance.Goals as goal
 
-pub loop-left-preserved-then-calm-gt0 : goal.loop-left-preserved-then-calm-gt0
-loop-left-preserved-then-calm-gt0 c =
-    let k = c.calm-calm.result in
+pub loop-left-preserved-then-left-gt0 : goal.loop-left-preserved-then-left-gt0
+loop-left-preserved-then-left-gt0 c =
     let n = c.loop-left.left in
-    let e = c.loop-left.self in
-    let z : n - k + k ≡ n = omega (arith, c.calm-calm.ensures.bounded) in
-    ap (ticks (n - k)) (c.skip.ensures ∙ sym (calm_ticks k e c.calm-calm.ensures.detector c.calm-calm.ensures.phase))
-    ∙ sym (ticks_add (n - k) k e) ∙ ap (λ m. ticks m e) z ∙ c.loop-left.invariant
+    let k = c.calm-calm.result in
+    let calm = c.calm-calm.ensures in
+    ap (ticks (n - k - 1)) c.tick.ensures ∙ tick_ahead (n - k) c.skip.new.self c.if-left-gt0.true ∙ ap (ticks (n - k)) c.skip.ensures
+    ∙ skip_ahead n k c.loop-left.self calm.bounded calm.detector calm.phase ∙ c.loop-left.invariant
 
 pub loop-left-preserved : goal.loop-left-preserved
 loop-left-preserved c =
     let n = c.loop-left.left in
-    let e = c.loop-left.self in
-    let z : n - 1 + 1 ≡ n = omega (arith, c.loop-left-test.true) in
-    ap (ticks (n - 1)) c.tick.ensures ∙ sym (ticks_add (n - 1) 1 e) ∙ ap (λ m. ticks m e) z ∙ c.loop-left.invariant
+    let k = c.calm-calm.result in
+    let calm = c.calm-calm.ensures in
+    ap (ticks (n - k)) c.skip.ensures ∙ skip_ahead n k c.loop-left.self calm.bounded calm.detector calm.phase ∙ c.loop-left.invariant
