@@ -1,3 +1,4 @@
+pub mod Driving
 pub mod EndRuns
 pub mod LentRuns
 pub mod LinkRuns
