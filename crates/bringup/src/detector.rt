@@ -10,7 +10,7 @@ const LONGEST_IDLE: u32 = 4_725;
 
 // The idle so far, counted up to the longest that matters; whether a burst is heard; what the latest closed idle was of,
 // and how many like it stand in a row, up to four; which signals are detected; and whether COMSAS has fallen since.
-#[derive(Clone, Copy)]
+#[derive(Clone, Copy, PartialEq, Eq, Debug)]
 pub struct Detector {
     pub idle: u32,
     pub burst: bool,

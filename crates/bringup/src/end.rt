@@ -5,8 +5,9 @@ use crate::rate::{Rate, RateSet};
 pub mod asking;
 pub mod examples;
 pub mod noting;
+mod shown;
 
-#[derive(Clone, Copy)]
+#[derive(Clone, Copy, PartialEq, Eq, Debug)]
 pub enum Phase {
     Unstarted,
     SendingCominit,
@@ -22,7 +23,7 @@ pub enum Phase {
 
 // The latest speed negotiation window: whether it is the final one, whether the one before it was valid, whether a lock
 // counted in it, and whether an ALIGN(1) was noted after that, which makes it valid.
-#[derive(Clone, Copy)]
+#[derive(Clone, Copy, PartialEq, Eq, Debug)]
 pub struct Window {
     pub rate: Rate,
     pub last: bool,
@@ -32,7 +33,7 @@ pub struct Window {
 }
 
 // What is noted of the other end.
-#[derive(Clone, Copy)]
+#[derive(Clone, Copy, PartialEq, Eq, Debug)]
 pub enum Sign {
     Nothing,
     BurstStarts,
@@ -42,7 +43,7 @@ pub enum Sign {
 }
 
 // What an end sends.
-#[derive(Clone, Copy)]
+#[derive(Clone, Copy, PartialEq, Eq, Debug)]
 pub enum Activity {
     Idle,
     Burst,
@@ -50,7 +51,7 @@ pub enum Activity {
     Align1,
 }
 
-#[derive(Clone, Copy)]
+#[derive(Clone, Copy, PartialEq, Eq, Debug)]
 pub enum Outcome {
     Pending,
     Ready,

@@ -3,7 +3,7 @@ ghost use Rattle.std.specs.Prelude.{◌≡◌};
 ghost use Rattle.bringup.specs.Rates.{supports, past_highest, next_rate, previous_rate, rate_set, rate_number};
 
 // The rate of the latest window: none before the first, then the three that an end may support, and a fourth that none does.
-#[derive(Clone, Copy)]
+#[derive(Clone, Copy, PartialEq, Eq, Debug)]
 pub enum Rate {
     NoRate,
     G1,
@@ -12,7 +12,7 @@ pub enum Rate {
     G4,
 }
 
-#[derive(Clone, Copy)]
+#[derive(Clone, Copy, PartialEq, Eq, Debug)]
 pub struct RateSet {
     pub g1: bool,
     pub g2: bool,

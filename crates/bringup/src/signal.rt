@@ -3,27 +3,28 @@ ghost use Rattle.std.specs.Prelude.{◌≡◌, ◌+◌, ◌≤◌, ◌++◌, len
 ghost use Rattle.code.specs.Refusals.{numbered};
 ghost use Rattle.bringup.specs.Signals.{idle_of, closing_of, times_of, written_at, signal_at, signal_refusal, signal_writing};
 
+use code::refusal::Refusal;
+
 // Ticks, thirds of a nanosecond, that a burst lasts.
 const BURST: u32 = 320;
 
-#[derive(Clone, Copy)]
+#[derive(Clone, Copy, PartialEq, Eq, Debug)]
 pub enum Signal {
     Comwake,
     Cominit,
     Comsas,
 }
 
-#[derive(Clone, Copy)]
+#[derive(Clone, Copy, PartialEq, Eq, Debug)]
 pub enum SignalRefusal {
     NoSuchSignal,
     TooFewPlaces,
 }
 
-impl SignalRefusal {
-    // The number that the refusal goes by.
-    pub fn number(self) -> u8
-        ensures { result ≡ (signal_refusal self).number }
-    {
+impl Refusal for SignalRefusal {
+    ghost number_of = { λ r. (signal_refusal r).number };
+
+    fn number(&self) -> u8 {
         match self {
             SignalRefusal::NoSuchSignal => 18,
             SignalRefusal::TooFewPlaces => 19,

@@ -1,12 +1,10 @@
 // The times of signals in memory.
 use bringup::signal::write_signal;
+use code::refusal::answer_number;
 
 // The number that writing is refused by, or 0.
 fn refusal(number: u8, memory: &mut [u32], place: usize) -> u8 {
-    match write_signal(number, memory, place) {
-        Ok(()) => 0,
-        Err(refusal) => refusal.number(),
-    }
+    answer_number(&write_signal(number, memory, place))
 }
 
 #[test]

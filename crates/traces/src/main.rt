@@ -6,6 +6,7 @@
 use anyhow::Context;
 use bringup::end::{Activity, End, Outcome};
 use code::encode;
+use code::refusal::Refusal;
 use line::tap::{Line, Tap};
 use lines::packed_line::PackedLine;
 use lines::word_line::WordLine;

@@ -7,6 +7,7 @@ ghost use Rattle.bringup.specs.Skipping.{skipped, detector_calm, phase_calm};
 use crate::detector::{Detector, count_up};
 use crate::end::{End, Phase, Sign, Window};
 use crate::rate::{Rate, RateSet};
+use code::refusal::Refusal;
 
 // How long COMINIT and COMSAS are sent, how long an end waits after COMSAS for the other's, and how long a window lasts.
 const COMINIT_TICKS: u32 = 9_255;
@@ -24,24 +25,23 @@ const LATEST_LOCK: u32 = 314_385;
 
 const MOST_TICKS: u32 = 400_000;
 
-#[derive(Clone, Copy)]
+#[derive(Clone, Copy, PartialEq, Eq, Debug)]
 pub enum StartRefusal {
     RateSetOutside,
     StartedBefore,
 }
 
-#[derive(Clone, Copy)]
+#[derive(Clone, Copy, PartialEq, Eq, Debug)]
 pub enum NoteRefusal {
     TooManyTicks,
     SignOutside,
     NotStarted,
 }
 
-impl StartRefusal {
-    // The number that the refusal goes by.
-    pub fn number(self) -> u8
-        ensures { result ≡ (start_refusal self).number }
-    {
+impl Refusal for StartRefusal {
+    ghost number_of = { λ r. (start_refusal r).number };
+
+    fn number(&self) -> u8 {
         match self {
             StartRefusal::RateSetOutside => 8,
             StartRefusal::StartedBefore => 9,
@@ -49,11 +49,10 @@ impl StartRefusal {
     }
 }
 
-impl NoteRefusal {
-    // The number that the refusal goes by.
-    pub fn number(self) -> u8
-        ensures { result ≡ (note_refusal self).number }
-    {
+impl Refusal for NoteRefusal {
+    ghost number_of = { λ r. (note_refusal r).number };
+
+    fn number(&self) -> u8 {
         match self {
             NoteRefusal::TooManyTicks => 10,
             NoteRefusal::SignOutside => 11,
