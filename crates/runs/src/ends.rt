@@ -12,26 +12,26 @@ use bringup::end::noting::{NoteRefusal, StartRefusal};
 use code::refusal::Refusal;
 use std::alloc::{AllocError, Global};
 
-#[derive(Clone, Copy)]
+#[derive(Clone, Copy, PartialEq, Eq, Debug)]
 pub enum WhichEnd {
     First,
     Second,
 }
 
-#[derive(Clone, Copy)]
+#[derive(Clone, Copy, PartialEq, Eq, Debug)]
 pub enum EndStep {
     Start(u8),
     Note(u32, u8),
 }
 
-#[derive(Clone, Copy)]
+#[derive(Clone, Copy, PartialEq, Eq, Debug)]
 pub struct EndCall {
     pub which: WhichEnd,
     pub step: EndStep,
 }
 
 // Why a call on an end is declined.
-#[derive(Clone, Copy)]
+#[derive(Clone, Copy, PartialEq, Eq, Debug)]
 pub enum EndRefusal {
     Start(StartRefusal),
     Note(NoteRefusal),

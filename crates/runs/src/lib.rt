@@ -6,4 +6,5 @@ pub mod ends;
 pub mod lent;
 pub mod links;
 pub mod refusal;
+mod shown;
 pub mod whole;
