@@ -1,8 +1,11 @@
 -- Tests at each valid code, and the code that a character can stand for.
-use Rattle.std.proofs.Common.{◌≡◌, ℕ, ◌+◌, ◌-◌, ◌*◌, ◌/◌, ◌%◌, ◌<◌, Bool, true, false, cond, ◌&&◌, ◌||◌, T, eqb, ◌⊎◌, get_or, sym, refl, subst, inl, inr, arith, eqb→eq}
+use Rattle.std.proofs.Common.{◌≡◌, ℕ, ◌+◌, ◌-◌, ◌*◌, ◌/◌, ◌%◌, ◌<◌, Bool, true, false, cond, ◌&&◌, ◌||◌, T, eqb, ◌⊎◌, get_or, sym, refl, ap, subst, inl, inr, arith, eqb→eq}
 use Rattle.std.proofs.lemmas.Bool.Decides.{nat_tests}
-use Rattle.code.specs.Characters.{encoded, valid, OnlyCode}
+use Rattle.code.specs.Characters.{encoded, data_character, special_character, valid, unlike, OnlyCode}
 use Rattle.code.specs.declared.character.Code.{Code}
+use Rattle.code.specs.declared.character.numbers.Kind.{Kind}
+use Rattle.code.specs.declared.character.numbers.Kind.TheVariants.{Data, Special}
+use Rattle.code.specs.Kinds.{kind_number, kind_with, code_with}
 use Rattle.code.proofs.Computed.{both_left, both_right, below, at_below, at_disparity_below}
 use Rattle.code.proofs.ProgramTables.{low_of_six, high_of_four}
 
@@ -13,11 +16,31 @@ true_from false t = absurd t
 pub from_true : (b : Bool) → b ≡ true → T b
 from_true b e = subst T (sym e) tt
 
-abbrev pub code_with : ℕ → ℕ → Code
-code_with k b = record { kind = k; byte = b }
-
 pub valid_cases : (k b : ℕ) → valid k b ≡ true → ((k ≡ 0) × (b < 256)) ⊎ ((k ≡ 1) × ((b ≡ 0x7C) ⊎ (b ≡ 0xBC)))
 valid_cases k b t = grind (arith, nat_tests)
+
+-- a kind is the one of its number, and a valid code's number is that of its kind
+kind_of_number : (kind : Kind) → kind_with (kind_number kind) ≡ kind
+kind_of_number Data = refl
+kind_of_number Special = refl
+
+pub code_of_number : (code : Code) → code_with (kind_number code.kind) code.byte ≡ code
+code_of_number code = ap (λ (kind : Kind). record { kind = kind; byte = code.byte }) (kind_of_number code.kind)
+
+pub number_of_kind : (k b : ℕ) → T (valid k b) → kind_number (kind_with k) ≡ k
+number_of_kind k b v = elim (valid_cases k b (true_from (valid k b) v)) [ inl p ↦ rw p.0 refl | inr p ↦ rw p.0 refl ]
+
+-- every number but 0 is taken for that of a special code
+chosen : (t : Bool) (x y : ℕ) → cond (eqb (kind_number (cond t Data Special)) 0) x y ≡ cond t x y
+chosen true x y = refl
+chosen false x y = refl
+
+encoded_with : (k b d : ℕ) → encoded (kind_number (kind_with k)) b d ≡ encoded k b d
+unfolding encoded
+encoded_with k b d = chosen (eqb k 0) (data_character b d) (special_character b d)
+
+pub unlike_with : (k b : ℕ) → unlike (kind_number (kind_with k)) b ≡ unlike k b
+unlike_with k b = rw (encoded_with k b 0, encoded_with k b 1) refl
 
 -- a test at each valid code
 abbrev pub every_code : (ℕ → ℕ → Bool) → Bool
@@ -60,8 +83,9 @@ of_encoded k b d v h =
       eqb→eq b (byte_of (encoded k b d)) (both_right (eqb k (kind_of (encoded k b d))) (eqb b (byte_of (encoded k b d))) t),
     )
 
-pub only_code : (character : ℕ) (code : Code) → code.kind ≡ kind_of character → code.byte ≡ byte_of character → OnlyCode character code
-only_code character code p q k b d v h e =
+pub only_code : (character : ℕ) (kind : Kind) (byte : ℕ) → kind_number kind ≡ kind_of character → byte ≡ byte_of character
+    → OnlyCode character (record { kind = kind; byte = byte })
+only_code character kind byte p q k b d v h e =
     let o = of_encoded k b d v h in
     let o' : (k ≡ kind_of character) × (b ≡ byte_of character)
     = subst (λ (ch : ℕ). (k ≡ kind_of ch) × (b ≡ byte_of ch)) e o in

@@ -4,28 +4,29 @@ use Rattle.std.proofs.lemmas.Bool.{cases_lt, eqb-true, eq-eqb, and_from, and_par
 use Rattle.code.specs.Characters.{encoded, valid, OnlyCode, codes, data_codes, first_encoded, decoded}
 use Rattle.code.specs.declared.character.Code.{Code}
 use Rattle.code.proofs.Computed.{both_left, both_right}
-use Rattle.code.proofs.Codes.{true_from, from_true, valid_cases, code_with}
+use Rattle.code.specs.Kinds.{kind_number, code_with}
+use Rattle.code.proofs.Codes.{true_from, from_true, valid_cases, code_of_number, number_of_kind}
 
 -- what is found is a valid code with that character
 abbrev pub Found : ℕ → ℕ → Option Code → Type 0
-Found ch d (Some c) = T (valid c.kind c.byte) × (encoded c.kind c.byte d ≡ ch)
+Found ch d (Some c) = T (valid (kind_number c.kind) c.byte) × (encoded (kind_number c.kind) c.byte d ≡ ch)
 Found ch d None = Unit {0}
 
 abbrev all_valid : List Code → Bool
 all_valid [] = true
-all_valid (c ∷ cs) = valid c.kind c.byte && all_valid cs
+all_valid (c ∷ cs) = valid (kind_number c.kind) c.byte && all_valid cs
 
-found_one : (ch d : ℕ) (c : Code) (rest : Option Code) (t : Bool) → eqb (encoded c.kind c.byte d) ch ≡ t
-    → T (valid c.kind c.byte) → Found ch d rest → Found ch d (cond t (Some c) rest)
-found_one ch d c rest true e v r = (v, eqb-true (encoded c.kind c.byte d) ch e)
+found_one : (ch d : ℕ) (c : Code) (rest : Option Code) (t : Bool) → eqb (encoded (kind_number c.kind) c.byte d) ch ≡ t
+    → T (valid (kind_number c.kind) c.byte) → Found ch d rest → Found ch d (cond t (Some c) rest)
+found_one ch d c rest true e v r = (v, eqb-true (encoded (kind_number c.kind) c.byte d) ch e)
 found_one ch d c rest false e v r = r
 
 found_in : (ch d : ℕ) (cs : List Code) → T (all_valid cs) → Found ch d (first_encoded ch d cs)
 found_in ch d [] t = tt
 found_in ch d (c ∷ cs) t =
-    found_one ch d c (first_encoded ch d cs) (eqb (encoded c.kind c.byte d) ch) refl
-    (both_left (valid c.kind c.byte) (all_valid cs) t)
-    (found_in ch d cs (both_right (valid c.kind c.byte) (all_valid cs) t))
+    found_one ch d c (first_encoded ch d cs) (eqb (encoded (kind_number c.kind) c.byte d) ch) refl
+    (both_left (valid (kind_number c.kind) c.byte) (all_valid cs) t)
+    (found_in ch d cs (both_right (valid (kind_number c.kind) c.byte) (all_valid cs) t))
 
 pub found : (ch d : ℕ) → Found ch d (decoded ch d)
 unfolding decoded codes
@@ -64,19 +65,25 @@ missed ch d e k b v =
     ]
 
 -- where a character can stand for one code only, decoding is a test of that code
-decoded_by : (ch d : ℕ) (c : Code) → d < 2 → OnlyCode ch c → (r : Bool) → (valid c.kind c.byte && eqb (encoded c.kind c.byte d) ch) ≡ r
+decoded_by : (ch d : ℕ) (c : Code) → d < 2 → OnlyCode ch c → (r : Bool) → (valid (kind_number c.kind) c.byte && eqb (encoded (kind_number c.kind) c.byte d) ch) ≡ r
     → (o : Option Code) → decoded ch d ≡ o → Found ch d o → o ≡ cond r (Some c) None
 decoded_by ch d c h only r e (Some x) p f =
-    let u = only x.kind x.byte d f.0 h f.1 in
-    let same : x ≡ c = ap₂ code_with u.0 u.1 in
-    let s = and_from (valid x.kind x.byte) (eqb (encoded x.kind x.byte d) ch) (true_from (valid x.kind x.byte) f.0) (eq-eqb (encoded x.kind x.byte d) ch f.1) in
-    let t : r ≡ true = sym e ∙ subst (λ (y : Code). (valid y.kind y.byte && eqb (encoded y.kind y.byte d) ch) ≡ true) same s in
+    let u = only (kind_number x.kind) x.byte d f.0 h f.1 in
+    let same : x ≡ c = sym (code_of_number x) ∙ ap₂ code_with u.0 u.1 ∙ code_of_number c in
+    let s = and_from (valid (kind_number x.kind) x.byte) (eqb (encoded (kind_number x.kind) x.byte d) ch) (true_from (valid (kind_number x.kind) x.byte) f.0) (eq-eqb (encoded (kind_number x.kind) x.byte d) ch f.1) in
+    let t : r ≡ true = sym e ∙ subst (λ (y : Code). (valid (kind_number y.kind) y.byte && eqb (encoded (kind_number y.kind) y.byte d) ch) ≡ true) same s in
     ap Some same ∙ ap (λ (q : Bool). cond q (Some c) None) (sym t)
 decoded_by ch d c h only true e None p f =
-    let parts = and_parts (valid c.kind c.byte) (eqb (encoded c.kind c.byte d) ch) e in
-    absurd (both_ways (eqb (encoded c.kind c.byte d) ch) (missed ch d p c.kind c.byte (from_true (valid c.kind c.byte) parts.0)) parts.1)
+    let parts = and_parts (valid (kind_number c.kind) c.byte) (eqb (encoded (kind_number c.kind) c.byte d) ch) e in
+    absurd (both_ways (eqb (encoded (kind_number c.kind) c.byte d) ch) (missed ch d p (kind_number c.kind) c.byte (from_true (valid (kind_number c.kind) c.byte) parts.0)) parts.1)
 decoded_by ch d c h only false e None p f = refl
 
 pub decoded_is : (ch d : ℕ) (c : Code) → d < 2 → OnlyCode ch c
-    → decoded ch d ≡ cond (valid c.kind c.byte && eqb (encoded c.kind c.byte d) ch) (Some c) None
-decoded_is ch d c h only = decoded_by ch d c h only (valid c.kind c.byte && eqb (encoded c.kind c.byte d) ch) refl (decoded ch d) refl (found ch d)
+    → decoded ch d ≡ cond (valid (kind_number c.kind) c.byte && eqb (encoded (kind_number c.kind) c.byte d) ch) (Some c) None
+decoded_is ch d c h only = decoded_by ch d c h only (valid (kind_number c.kind) c.byte && eqb (encoded (kind_number c.kind) c.byte d) ch) refl (decoded ch d) refl (found ch d)
+
+pub decoded_with : (ch d k b : ℕ) → T (valid k b) → d < 2 → OnlyCode ch (code_with k b)
+    → decoded ch d ≡ cond (valid k b && eqb (encoded k b d) ch) (Some (code_with k b)) None
+decoded_with ch d k b v h only =
+    subst (λ (n : ℕ). decoded ch d ≡ cond (valid n b && eqb (encoded n b d) ch) (Some (code_with k b)) None) (number_of_kind k b v)
+    (decoded_is ch d (code_with k b) h only)

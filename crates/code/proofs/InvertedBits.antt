@@ -3,6 +3,7 @@ use Rattle.std.proofs.Common.{◌≡◌, ℕ, ◌-◌, ◌<◌, Bool, true, not,
 use Rattle.std.proofs.lemmas.Bool.{eq-eqb, and_from}
 use Rattle.code.specs.declared.character.Code.{Code}
 use Rattle.code.specs.Characters.{encoded, decoded, after, valid}
+use Rattle.code.specs.Kinds.{kind_number}
 use Rattle.code.specs.Laws as laws
 use Rattle.code.proofs.Computed.{below, at_below, implied}
 use Rattle.code.proofs.Codes.{true_from, at_code_and_disparity, kind_of, byte_of, of_encoded}
@@ -16,10 +17,10 @@ stands_is : (x d : ℕ) (c : Code) → d < 2 → decoded x d ≡ Some c → stan
 unfolding stands
 stands_is x d c h e =
     let f = decoded_stands_there x d c e in
-    let o = of_encoded c.kind c.byte d f.0 h in
-    let k : c.kind ≡ kind_of x = subst (λ (y : ℕ). c.kind ≡ kind_of y) f.1 o.0 in
+    let o = of_encoded (kind_number c.kind) c.byte d f.0 h in
+    let k : (kind_number c.kind) ≡ kind_of x = subst (λ (y : ℕ). (kind_number c.kind) ≡ kind_of y) f.1 o.0 in
     let b : c.byte ≡ byte_of x = subst (λ (y : ℕ). c.byte ≡ byte_of y) f.1 o.1 in
-    let s = and_from (valid c.kind c.byte) (eqb (encoded c.kind c.byte d) x) (true_from (valid c.kind c.byte) f.0) (eq-eqb (encoded c.kind c.byte d) x f.1) in
+    let s = and_from (valid (kind_number c.kind) c.byte) (eqb (encoded (kind_number c.kind) c.byte d) x) (true_from (valid (kind_number c.kind) c.byte) f.0) (eq-eqb (encoded (kind_number c.kind) c.byte d) x f.1) in
     ap₂ (λ (k b : ℕ). valid k b && eqb (encoded k b d) x) (sym k) (sym b) ∙ s
 
 turns : ℕ → ℕ → ℕ → ℕ → Bool

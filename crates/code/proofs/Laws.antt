@@ -4,20 +4,23 @@ use Rattle.std.proofs.lemmas.Bool.{eq-eqb, eqb-true, and_from, both_ways, cond-t
 use Rattle.code.specs.Characters.{encoded, decoded, after, used_after, valid, unlike, OnlyCode, after_half, ones_of, ones_first, ones_last}
 use Rattle.code.specs.Laws as laws
 use Rattle.code.proofs.Computed.{both_left, both_right, implied}
-use Rattle.code.proofs.Codes.{true_from, at_code_and_disparity, of_encoded, only_code, code_with}
-use Rattle.code.proofs.Decoding.{Found, found, decoded_is}
+use Rattle.code.specs.Kinds.{kind_with, code_with}
+use Rattle.code.proofs.Codes.{true_from, number_of_kind, at_code_and_disparity, of_encoded, only_code}
+use Rattle.code.proofs.Decoding.{Found, found, decoded_with}
 
 -- ---- encoding and decoding
 
 pub only_encoded : (k b d : ℕ) → T (valid k b) → d < 2 → OnlyCode (encoded k b d) (code_with k b)
-only_encoded k b d v h = only_code (encoded k b d) (code_with k b) (of_encoded k b d v h).0 (of_encoded k b d v h).1
+only_encoded k b d v h = only_code (encoded k b d) (kind_with k) b (number_of_kind k b v ∙ (of_encoded k b d v h).0) (of_encoded k b d v h).1
 
 pub one_code_to_a_character : laws.OneCodeToACharacter
-one_code_to_a_character k b k' b' d d' v v' h h' e = only_encoded k' b' d' v' h' k b d v h e
+one_code_to_a_character k b k' b' d d' v v' h h' e =
+    let same = only_encoded k' b' d' v' h' k b d v h e in
+    (same.0 ∙ number_of_kind k' b' v', same.1)
 
 pub decoding_undoes_encoding : laws.DecodingUndoesEncoding
 decoding_undoes_encoding k b d v h =
-    decoded_is (encoded k b d) d (code_with k b) h (only_encoded k b d v h)
+    decoded_with (encoded k b d) d k b v h (only_encoded k b d v h)
     ∙ cond-true (valid k b && eqb (encoded k b d) (encoded k b d)) (Some (code_with k b)) None
     (and_from (valid k b) (eqb (encoded k b d) (encoded k b d)) (true_from (valid k b) v) (eq-eqb (encoded k b d) (encoded k b d) refl))
 
@@ -40,7 +43,7 @@ or_right_at : (a b : Bool) → T (a || b) → a ≡ false → T b
 or_right_at true b t e = absurd (both_ways true e refl)
 or_right_at false b t e = t
 
-same_column : (k b d e : ℕ) → d < 2 → e < 2 → unlike k b ≡ false → encoded k b d ≡ encoded k b e
+pub same_column : (k b d e : ℕ) → d < 2 → e < 2 → unlike k b ≡ false → encoded k b d ≡ encoded k b e
 same_column k b d e h g u = alike d e h g
   where
     m : encoded k b 0 ≡ encoded k b 1
@@ -82,7 +85,7 @@ differs k b (suc (suc d)) h u = absurd (not-suc-le-zero (le_of_suc-le-suc (le_of
 
 other_column : (k b d : ℕ) → T (valid k b) → d < 2 → unlike k b ≡ true → decoded (encoded k b d) (1 - d) ≡ None
 other_column k b d v h u =
-    decoded_is (encoded k b d) (1 - d) (code_with k b) (omega arith) (only_encoded k b d v h)
+    decoded_with (encoded k b d) (1 - d) k b v (omega arith) (only_encoded k b d v h)
     ∙ cond-false (valid k b && eqb (encoded k b (1 - d)) (encoded k b d)) (Some (code_with k b)) None
     (and_right (valid k b) (eqb (encoded k b (1 - d)) (encoded k b d)) (differs k b d h u))
 

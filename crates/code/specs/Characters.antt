@@ -2,6 +2,7 @@
 -- and a character is a number below 1024 whose highest bit is the first one sent.
 use Rattle.std.specs.Prelude.{◌≡◌, ℕ, zero, suc, ◌+◌, ◌-◌, ◌*◌, ◌/◌, ◌%◌, ◌^◌, ◌<◌, Bool, cond, not, ◌&&◌, ◌||◌, T, List, [], ◌∷◌, Some, None, Option, ◌==◌, nat_lt, slice_index}
 use Rattle.code.specs.declared.character.Code.{Code}
+use Rattle.code.specs.Kinds.{kind_number, code_with}
 
 -- The six-bit halves at minus, by the low five bits of the byte.
 unfoldable pub sixes : List ℕ
@@ -104,21 +105,21 @@ valid kind byte = cond (kind == 0) (nat_lt byte 256) (kind == 1 && special byte)
 
 -- Whichever column a character is read in, no other code than this one has it.
 abbrev pub OnlyCode : ℕ → Code → Type 0
-OnlyCode character code = (k b d : ℕ) → T (valid k b) → d < 2 → encoded k b d ≡ character → (k ≡ code.kind) × (b ≡ code.byte)
+OnlyCode character code = (k b d : ℕ) → T (valid k b) → d < 2 → encoded k b d ≡ character → (k ≡ kind_number code.kind) × (b ≡ code.byte)
 
 -- The data bytes below n, before other codes.
 abbrev pub data_codes : ℕ → List Code → List Code
 data_codes zero others = others
-data_codes (suc n) others = data_codes n (record { kind = 0; byte = n } ∷ others)
+data_codes (suc n) others = data_codes n (code_with 0 n ∷ others)
 
 unfoldable pub codes : List Code
-codes = data_codes 256 (record { kind = 1; byte = 0x7C } ∷ record { kind = 1; byte = 0xBC } ∷ [])
+codes = data_codes 256 (code_with 1 0x7C ∷ code_with 1 0xBC ∷ [])
 
 -- The first of some codes whose character at the disparity is the one given.
 abbrev pub first_encoded : ℕ → ℕ → List Code → Option Code
 first_encoded character disparity [] = None
 first_encoded character disparity (c ∷ others) =
-    cond (encoded c.kind c.byte disparity == character) (Some c) (first_encoded character disparity others)
+    cond (encoded (kind_number c.kind) c.byte disparity == character) (Some c) (first_encoded character disparity others)
 
 -- The code that a character stands for in the column of a disparity.
 unfoldable pub decoded : ℕ → ℕ → Option Code

@@ -1,6 +1,7 @@
 -- What decoding answers.
 use Rattle.std.specs.Prelude.{ℕ, Bool, false, cond, ◌&&◌, [], ◌∷◌, Some, None, Ok, Err, Option, Result, ◌==◌, nat_lt, slice_index_or}
 use Rattle.code.specs.Refusals.{Refusal, plain}
+use Rattle.code.specs.Kinds.{kind_number}
 use Rattle.code.specs.Characters.{after, decoded}
 use Rattle.code.specs.declared.character.Code.{Code}
 use Rattle.code.specs.declared.character.decoding.Decoded.{Decoded}
@@ -27,7 +28,7 @@ decoding character disparity =
 
 -- The answer is this data byte with this disparity after it.
 abbrev pub is_decoded : Result Decoded Refusal → ℕ → ℕ → Bool
-is_decoded (Ok d) byte next = d.code.kind == 0 && d.code.byte == byte && d.disparity == next
+is_decoded (Ok d) byte next = kind_number d.code.kind == 0 && d.code.byte == byte && d.disparity == next
 is_decoded (Err r) byte next = false
 
 -- The answer is that the character is not in the column, with this disparity after it.

@@ -2,6 +2,7 @@
 use Rattle.std.specs.Prelude.{◌≡◌, ℕ, ◌-◌, ◌/◌, ◌%◌, ◌<◌, true, false, T, ◌⊎◌, List, [], ◌∷◌, ◌++◌, take, drop, Some, None, Ok, Err}
 use Rattle.code.specs.declared.character.Code.{Code}
 use Rattle.code.specs.Bits.{bits_of, number_of, inverted}
+use Rattle.code.specs.Kinds.{kind_number, code_with}
 use Rattle.code.specs.Characters.{encoded, decoded, after, used_after, valid, unlike}
 use Rattle.code.specs.Encodings.{encoding}
 use Rattle.code.specs.Decodings.{decoding, decode_refusal}
@@ -10,13 +11,13 @@ use Rattle.code.specs.declared.character.decoding.DecodeRefusal.TheVariants.{Not
 -- Decoding undoes encoding.
 abbrev pub DecodingUndoesEncoding : Type 0
 DecodingUndoesEncoding =
-    (kind byte d : ℕ) → T (valid kind byte) → d < 2 → decoded (encoded kind byte d) d ≡ Some (record { kind = kind; byte = byte })
+    (kind byte d : ℕ) → T (valid kind byte) → d < 2 → decoded (encoded kind byte d) d ≡ Some (code_with kind byte)
 
 -- A character is read in a column as a code only if that code is valid and stands there with it. With the law above,
 -- a character is valid in a column exactly if some valid code stands there with it.
 abbrev pub DecodedStandsThere : Type 0
 DecodedStandsThere =
-    (character d : ℕ) (c : Code) → decoded character d ≡ Some c → T (valid c.kind c.byte) × (encoded c.kind c.byte d ≡ character)
+    (character d : ℕ) (c : Code) → decoded character d ≡ Some c → T (valid (kind_number c.kind) c.byte) × (encoded (kind_number c.kind) c.byte d ≡ character)
 
 -- A character stands for one code, also where it is read at the other disparity.
 abbrev pub OneCodeToACharacter : Type 0
@@ -33,7 +34,7 @@ NextDisparitiesAgree =
 abbrev pub LikeColumnsKeepDisparity : Type 0
 LikeColumnsKeepDisparity =
     (k b d e : ℕ) → T (valid k b) → d < 2 → e < 2 → unlike k b ≡ false
-    → (decoded (encoded k b d) e ≡ Some (record { kind = k; byte = b })) × (after (encoded k b d) e ≡ e)
+    → (decoded (encoded k b d) e ≡ Some (code_with k b)) × (after (encoded k b d) e ≡ e)
 
 -- A character of a code with unlike columns is in no other column, and sets the next disparity whatever stood before.
 abbrev pub UnlikeColumnsSetDisparity : Type 0
@@ -87,7 +88,7 @@ K28_5StartsWithComma =
 -- Worked examples; the last three are the characters of ALIGN(0) sent at minus, of which the second stands twice.
 pub record Examples : Type 0 where
   pub encoded_35 : encoding 0 0x35 0 ≡ Ok (record { character = 0b1010101001; disparity = 0 })
-  pub decoded_15 : decoding 0b1010101011 0 ≡ Ok (record { code = record { kind = 0; byte = 0x15 }; disparity = 1 })
+  pub decoded_15 : decoding 0b1010101011 0 ≡ Ok (record { code = code_with 0 0x15; disparity = 1 })
   pub encoded_b7 : encoding 0 0xB7 0 ≡ Ok (record { character = 0b1110101010; disparity = 1 })
   pub other_column : decoding 0b1110101010 1 ≡ Err (decode_refusal (NotInColumn 1))
   pub encoded_f1 : encoding 0 0xF1 0 ≡ Ok (record { character = 0b1000110111; disparity = 1 })

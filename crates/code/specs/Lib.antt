@@ -1,4 +1,5 @@
 pub mod Bits
+pub mod Kinds
 pub mod Characters
 pub mod Refusals
 pub mod Encodings

@@ -1,6 +1,7 @@
 // Characters made of their halves. A disparity is 0 (minus) or 1 (plus).
 ghost use Rattle.std.specs.Prelude.{◌≡◌, ◌<◌, if◌then◌else◌, nat_eq};
-ghost use Rattle.code.specs.Characters.{after, after_half, six_of, four_of, four_after, alternate_at_minus, alternate_at_plus};
+ghost use Rattle.code.specs.Kinds.{kind_number};
+ghost use Rattle.code.specs.Characters.{after, after_half, six_of, four_of, four_after, valid, unlike, alternate_at_minus, alternate_at_plus};
 ghost use Rattle.code.specs.Encodings.{data_sent, special_sent, sent_as};
 
 use crate::tables::{
@@ -10,16 +11,19 @@ use crate::tables::{
 pub mod decoding;
 pub mod encoding;
 pub mod examples;
+pub mod numbers;
+
+use numbers::Kind;
 
 // The bytes of the special codes K28.3 and K28.5.
-const K28_3: u8 = 0x7C;
+pub const K28_3: u8 = 0x7C;
 
-const K28_5: u8 = 0xBC;
+pub const K28_5: u8 = 0xBC;
 
-// What a character stands for: a kind, 0 for data and 1 for special, and a byte.
-#[derive(Clone, Copy)]
+// What a character stands for.
+#[derive(Clone, Copy, PartialEq, Eq, Debug)]
 pub struct Code {
-    pub kind: u8,
+    pub kind: Kind,
     pub byte: u8,
 }
 
@@ -143,14 +147,33 @@ fn special_character(byte: u8, disparity: u8) -> Encoded
     }
 }
 
-// The character of a code, whose special byte is taken for K28.3 where it is not K28.5.
-fn character_of(kind: u8, byte: u8, disparity: u8) -> Encoded
-    requires { disparity < 2 }
-    ensures { result ≡ sent_as kind byte disparity }
-{
-    if kind == 0 {
-        data_character(byte, disparity)
-    } else {
-        special_character(byte, disparity)
+impl Code {
+    // Every data byte is valid, and K28.3 and K28.5.
+    fn is_valid(self) -> bool
+        ensures { result ≡ valid (kind_number self.kind) self.byte }
+    {
+        match self.kind {
+            Kind::Data => true,
+            Kind::Special => self.byte == K28_3 || self.byte == K28_5,
+        }
+    }
+
+    // The character of the code, whose special byte is taken for K28.3 where it is not K28.5.
+    #[tactic(auto, unfolding(crate::specs::Characters::encoded))]
+    fn encoded(self, disparity: u8) -> Encoded
+        requires { disparity < 2 }
+        ensures { result ≡ sent_as (kind_number self.kind) self.byte disparity }
+    {
+        match self.kind {
+            Kind::Data => data_character(self.byte, disparity),
+            Kind::Special => special_character(self.byte, disparity),
+        }
+    }
+
+    // Whether the two characters of the code differ.
+    pub fn has_unlike_columns(self) -> bool
+        ensures { result ≡ unlike (kind_number self.kind) self.byte }
+    {
+        self.encoded(0).character != self.encoded(1).character
     }
 }

@@ -8,4 +8,5 @@ mod tables;
 pub use character::decoding::{DecodeRefusal, Decoded, decode, has_unlike_columns};
 pub use character::encoding::{EncodeRefusal, encode};
 pub use character::examples::examples_hold;
-pub use character::{Code, Encoded};
+pub use character::numbers::{Kind, UnknownKind};
+pub use character::{Code, Encoded, K28_3, K28_5};

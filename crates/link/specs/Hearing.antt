@@ -1,13 +1,14 @@
 -- One hearing: what a receiver makes of a bit.
-use Rattle.std.specs.Prelude.{ℕ, ◌+◌, ◌-◌, ◌*◌, ◌%◌, min, Bool, true, false, cond, not, ◌&&◌, ◌==◌, nat_lt}
+use Rattle.std.specs.Prelude.{ℕ, ◌+◌, ◌-◌, ◌*◌, ◌%◌, min, Bool, true, false, cond, not, ◌&&◌, Some, None, Option, ◌==◌, nat_lt}
+use Rattle.std.specs.Option.{option_map}
 use Rattle.code.specs.Characters.{after}
 use Rattle.link.specs.declared.reading.Reading.TheVariants.{Refused}
 use Rattle.link.specs.declared.reading.Readings.{Readings}
 use Rattle.link.specs.declared.reading.Verdict.{Verdict}
-use Rattle.link.specs.declared.reading.Verdict.TheVariants.{Silent, Vouches, Doubts}
+use Rattle.link.specs.declared.reading.Verdict.TheVariants.{Vouches, Doubts}
 use Rattle.link.specs.declared.heard.Span.{Span}
 use Rattle.link.specs.declared.heard.Settlement.{Settlement}
-use Rattle.link.specs.declared.heard.Settlement.TheVariants.{Unsettled, Vouched, Doubtful}
+use Rattle.link.specs.declared.heard.Settlement.TheVariants.{Vouched, Doubtful}
 use Rattle.link.specs.declared.heard.Heard.TheVariants.{More, Slip, Gained, Good, Bad}
 use Rattle.link.specs.declared.state.Framing.{Framing}
 use Rattle.link.specs.declared.state.Ledger.{Ledger}
@@ -35,18 +36,16 @@ abbrev pub stretch : Ledger → Span
 stretch l = record { first = l.number - l.pending; last = l.number - 1 }
 
 abbrev pub settled_by : Verdict → Span → Settlement
-settled_by Silent span = Unsettled
 settled_by Vouches span = Vouched span
 settled_by Doubts span = Doubtful span
 
 -- An empty stretch gives none.
-abbrev pub settlement : Verdict → Ledger → Settlement
-settlement v l = cond (l.pending == 0) Unsettled (settled_by v (stretch l))
+abbrev pub settlement : Option Verdict → Ledger → Option Settlement
+settlement v l = cond (l.pending == 0) None (option_map (λ w. settled_by w (stretch l)) v)
 
-abbrev pub still_pending : Verdict → ℕ → ℕ
-still_pending Silent pending = pending
-still_pending Vouches pending = 0
-still_pending Doubts pending = 0
+abbrev pub still_pending : Option Verdict → ℕ → ℕ
+still_pending None pending = pending
+still_pending (Some v) pending = 0
 
 abbrev pub is_k28_5 : Readings → Bool
 is_k28_5 r = kind_of r.first == 1 && byte_of r.first == 0xBC

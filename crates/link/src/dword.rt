@@ -1,10 +1,5 @@
-// The bytes of the special codes K28.3 and K28.5.
-pub const K28_3: u8 = 0x7C;
-
-pub const K28_5: u8 = 0xBC;
-
 // Four characters sent together: kind 0 is four data codes, kind 1 a special code and three data codes.
-#[derive(Clone, Copy)]
+#[derive(Clone, Copy, PartialEq, Eq, Debug)]
 pub struct Dword {
     pub kind: u8,
     pub b0: u8,

@@ -1,9 +1,9 @@
 // Characters as a receiver reads them, and the four of a dword.
 ghost use Rattle.std.specs.Prelude.{◌≡◌, ◌≤◌};
-ghost use Rattle.link.specs.Readings.{placed, is_refused, kind_of, byte_of, weight, mask, is_good, dword, or_then, verdict};
+ghost use Rattle.link.specs.Readings.{placed, is_refused, code_of, weight, mask, is_good, dword, own_verdict, verdict};
 
 use crate::dword::Dword;
-use code::{Code, has_unlike_columns};
+use code::{Code, Kind};
 
 // What a character was read as: refused, or a code, by whether its two columns are alike.
 #[derive(Clone, Copy)]
@@ -22,10 +22,9 @@ pub struct Readings {
     pub fourth: Reading,
 }
 
-// What a dword's first character that is refused or has unlike columns says of the open stretch.
-#[derive(Clone, Copy)]
+// What a character that is refused or has unlike columns says of the open stretch.
+#[derive(Clone, Copy, PartialEq, Eq, Debug)]
 pub enum Verdict {
-    Silent,
     Vouches,
     Doubts,
 }
@@ -35,10 +34,10 @@ impl Reading {
     pub fn at_place(place: u8, code: Code) -> Reading
         ensures { result ≡ placed place code }
     {
-        if place > 0 && code.kind == 1 {
+        if place > 0 && code.kind == Kind::Special {
             return Reading::Refused;
         }
-        if has_unlike_columns(code) {
+        if code.has_unlike_columns() {
             Reading::Unlike(code)
         } else {
             Reading::Like(code)
@@ -48,19 +47,18 @@ impl Reading {
     fn is_refused(self) -> bool
         ensures { result ≡ is_refused self }
     {
-        match self {
-            Reading::Refused => true,
-            Reading::Like(_) => false,
-            Reading::Unlike(_) => false,
-        }
+        matches!(self, Reading::Refused)
     }
 
     // The code, of which a refused character has none.
     fn code(self) -> Code
-        ensures { result ≡ record { kind = kind_of self; byte = byte_of self } }
+        ensures { result ≡ code_of self }
     {
         match self {
-            Reading::Refused => Code { kind: 0, byte: 0 },
+            Reading::Refused => Code {
+                kind: Kind::Data,
+                byte: 0,
+            },
             Reading::Like(code) => code,
             Reading::Unlike(code) => code,
         }
@@ -73,14 +71,14 @@ impl Reading {
         if self.is_refused() { number } else { 0 }
     }
 
-    // What the character says, or what later ones say where it is silent.
-    fn or_then(self, later: Verdict) -> Verdict
-        ensures { result ≡ or_then self later }
+    // What the character says of the open stretch, if anything.
+    fn verdict(self) -> Option<Verdict>
+        ensures { result ≡ own_verdict self }
     {
         match self {
-            Reading::Refused => Verdict::Doubts,
-            Reading::Like(_) => later,
-            Reading::Unlike(_) => Verdict::Vouches,
+            Reading::Refused => Some(Verdict::Doubts),
+            Reading::Like(_) => None,
+            Reading::Unlike(_) => Some(Verdict::Vouches),
         }
     }
 }
@@ -109,7 +107,7 @@ impl Readings {
     {
         let first = self.first.code();
         Dword {
-            kind: first.kind,
+            kind: first.kind.into(),
             b0: first.byte,
             b1: self.second.code().byte,
             b2: self.third.code().byte,
@@ -117,12 +115,14 @@ impl Readings {
         }
     }
 
-    pub fn verdict(self) -> Verdict
+    // What the first character that says something says.
+    pub fn verdict(self) -> Option<Verdict>
         ensures { result ≡ verdict self }
     {
-        self.first.or_then(
-            self.second
-                .or_then(self.third.or_then(self.fourth.or_then(Verdict::Silent))),
-        )
+        self.first
+            .verdict()
+            .or(self.second.verdict())
+            .or(self.third.verdict())
+            .or(self.fourth.verdict())
     }
 }

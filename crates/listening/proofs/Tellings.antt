@@ -1,9 +1,9 @@
 -- Collecting with room for one dword and three reports stops after each answer that is told; so what is collected, the
 -- reports before the dword, are the next lines of the whole.
-use Rattle.std.proofs.Common.{◌≡◌, ℕ, ◌+◌, ◌-◌, ◌<◌, Bool, true, false, cond, eqb, ltb, ◌⊎◌, List, [], ◌∷◌, ◌++◌, length, sym, refl, ap, ◌∙◌, subst, ap₂, inl, inr, append-nil, arith, length-append}
+use Rattle.std.proofs.Common.{◌≡◌, ℕ, ◌+◌, ◌-◌, ◌<◌, Bool, true, false, cond, eqb, ltb, ◌⊎◌, Some, None, Option, List, [], ◌∷◌, ◌++◌, length, sym, refl, ap, ◌∙◌, subst, ap₂, inl, inr, append-nil, arith, length-append}
 use Rattle.std.proofs.lemmas.Bool.{both_ways, eq-eqb, lt-ltb, eqb-true, cond-true, cond-false, ne_eqb}
 use Rattle.link.specs.declared.heard.Settlement.{Settlement}
-use Rattle.link.specs.declared.heard.Settlement.TheVariants.{Unsettled, Vouched, Doubtful}
+use Rattle.link.specs.declared.heard.Settlement.TheVariants.{Vouched, Doubtful}
 use Rattle.link.specs.declared.heard.BadDword.{BadDword}
 use Rattle.link.specs.declared.heard.Heard.{Heard}
 use Rattle.link.specs.declared.heard.Heard.TheVariants.{Dry, More, Slip, Gained, Good, Bad}
@@ -21,10 +21,10 @@ use Rattle.listening.proofs.Texts.{report_lines-append}
 
 -- ---- the lines of one answer
 
-settled_lines : (s : Settlement) → report_lines (settlement_reports s) ≡ settlement_lines s
-settled_lines Unsettled = refl
-settled_lines (Vouched span) = append-nil (line (report_text (report.Vouched span)))
-settled_lines (Doubtful span) = append-nil (line (report_text (report.Doubtful span)))
+settled_lines : (s : Option Settlement) → report_lines (settlement_reports s) ≡ settlement_lines s
+settled_lines None = refl
+settled_lines (Some (Vouched span)) = append-nil (line (report_text (report.Vouched span)))
+settled_lines (Some (Doubtful span)) = append-nil (line (report_text (report.Doubtful span)))
 
 lost_told : (lost : Bool) → report_lines (lost_reports lost) ≡ lost_lines lost
 lost_told true = append-nil (line (report_text report.Lost))

@@ -1,8 +1,7 @@
 -- Collecting: what the bits of a tap put into two queues, and why it stops.
-use Rattle.std.specs.Prelude.{◌≡◌, ℕ, ◌+◌, ◌-◌, Bool, cond, List, [], ◌∷◌, ◌++◌, length, ◌==◌, nat_lt}
+use Rattle.std.specs.Prelude.{◌≡◌, ℕ, ◌+◌, ◌-◌, Bool, cond, Some, None, Option, List, [], ◌∷◌, ◌++◌, length, ◌==◌, nat_lt}
 use Rattle.link.specs.declared.heard.Settlement.{Settlement}
 use Rattle.link.specs.declared.heard.Settlement.TheVariants as settlement
-use Rattle.link.specs.declared.heard.Settlement.TheVariants.{Unsettled}
 use Rattle.link.specs.declared.heard.BadDword.{BadDword}
 use Rattle.link.specs.declared.heard.Heard.{Heard}
 use Rattle.link.specs.declared.heard.Heard.TheVariants as heard
@@ -28,10 +27,10 @@ dwords_of heard.Gained = []
 dwords_of (Good g) = record { number = g.number; dword = g.dword } ∷ []
 dwords_of (heard.Bad b) = []
 
-abbrev pub settlement_reports : Settlement → List Report
-settlement_reports Unsettled = []
-settlement_reports (settlement.Vouched span) = Vouched span ∷ []
-settlement_reports (settlement.Doubtful span) = Doubtful span ∷ []
+abbrev pub settlement_reports : Option Settlement → List Report
+settlement_reports None = []
+settlement_reports (Some (settlement.Vouched span)) = Vouched span ∷ []
+settlement_reports (Some (settlement.Doubtful span)) = Doubtful span ∷ []
 
 abbrev pub lost_reports : Bool → List Report
 lost_reports lost = cond lost (Lost ∷ []) []

@@ -1,9 +1,8 @@
 -- The lines that are printed.
-use Rattle.std.specs.Prelude.{ℕ, ◌/◌, ◌%◌, Bool, true, cond, List, [], ◌∷◌, ◌++◌, codes, decimal}
+use Rattle.std.specs.Prelude.{ℕ, ◌/◌, ◌%◌, Bool, true, cond, Some, None, Option, List, [], ◌∷◌, ◌++◌, codes, decimal}
 use Rattle.std.specs.Fmt.{digit_glyph}
 use Rattle.link.specs.declared.heard.Settlement.{Settlement}
 use Rattle.link.specs.declared.heard.Settlement.TheVariants as settlement
-use Rattle.link.specs.declared.heard.Settlement.TheVariants.{Unsettled}
 use Rattle.link.specs.declared.heard.GoodDword.{GoodDword}
 use Rattle.link.specs.declared.heard.BadDword.{BadDword}
 use Rattle.link.specs.declared.heard.Heard.{Heard}
@@ -40,10 +39,10 @@ abbrev pub line : List ℕ → List ℕ
 line text = text ++ 10 ∷ []
 
 -- The lines of an answer: a span before its dword or bad line, a lost sync after it.
-abbrev pub settlement_lines : Settlement → List ℕ
-settlement_lines Unsettled = []
-settlement_lines (settlement.Vouched span) = line (report_text (Vouched span))
-settlement_lines (settlement.Doubtful span) = line (report_text (Doubtful span))
+abbrev pub settlement_lines : Option Settlement → List ℕ
+settlement_lines None = []
+settlement_lines (Some (settlement.Vouched span)) = line (report_text (Vouched span))
+settlement_lines (Some (settlement.Doubtful span)) = line (report_text (Doubtful span))
 
 abbrev pub good_lines : GoodDword → List ℕ
 good_lines g = settlement_lines g.settlement ++ line (dword_text (record { number = g.number; dword = g.dword }))

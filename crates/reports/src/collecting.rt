@@ -37,14 +37,14 @@ fn push_sure<T: Copy>(queue: &mut Queue<'_, T>, element: T)
     let _ = queue.push(element);
 }
 
-fn keep_settlement(reports: &mut Queue<'_, Report>, settlement: Settlement)
+fn keep_settlement(reports: &mut Queue<'_, Report>, settlement: Option<Settlement>)
     requires { 0 < room_of reports.old }
     ensures { Kept reports.old (settlement_reports settlement) reports.new }
 {
     match settlement {
-        Settlement::Unsettled => {}
-        Settlement::Vouched(span) => push_sure(reports, Report::Vouched(span)),
-        Settlement::Doubtful(span) => push_sure(reports, Report::Doubtful(span)),
+        None => {}
+        Some(Settlement::Vouched(span)) => push_sure(reports, Report::Vouched(span)),
+        Some(Settlement::Doubtful(span)) => push_sure(reports, Report::Doubtful(span)),
     }
 }
 

@@ -126,11 +126,11 @@ fn turn_number<L: Line>(line: &mut L, place: usize) -> u8 {
     }
 }
 
-fn settled(heap: Global, settlement: Settlement) -> Result<String, AllocError> {
+fn settled(heap: Global, settlement: Option<Settlement>) -> Result<String, AllocError> {
     match settlement {
-        Settlement::Unsettled => Ok(String::new(heap)),
-        Settlement::Vouched(span) => format!(in heap; "{}\t", Report::Vouched(span)),
-        Settlement::Doubtful(span) => format!(in heap; "{}\t", Report::Doubtful(span)),
+        None => Ok(String::new(heap)),
+        Some(Settlement::Vouched(span)) => format!(in heap; "{}\t", Report::Vouched(span)),
+        Some(Settlement::Doubtful(span)) => format!(in heap; "{}\t", Report::Doubtful(span)),
     }
 }
 

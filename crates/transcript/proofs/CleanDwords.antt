@@ -12,7 +12,8 @@ use Rattle.link.specs.Readings.{is_good, dword, reading, is_refused, kind_of, by
 use Rattle.link.specs.declared.reading.Reading.{Reading}
 use Rattle.link.specs.declared.reading.Reading.TheVariants.{Unlike, Like}
 use Rattle.transcript.proofs.Hunting.{hunting, match}
-use Rattle.code.proofs.Codes.{code_with}
+use Rattle.code.specs.Kinds.{code_with}
+use Rattle.code.proofs.Codes.{number_of_kind, unlike_with}
 use Rattle.code.proofs.Laws.{characters_fit, decoding_undoes_encoding, disparity_fits}
 
 pub ten_of : (n : ℕ) → Ten (bits n)
@@ -29,9 +30,9 @@ pub record Reads (v : Reading) (kind byte : ℕ) : Type 0 where
   pub kind_is : kind_of v ≡ kind
   pub byte_is : byte_of v ≡ byte
 
-pub reads_column : (kind byte : ℕ) (u : Bool) → Reads (cond u (Unlike (code_with kind byte)) (Like (code_with kind byte))) kind byte
-reads_column kind byte true = record { good = refl; kind_is = refl; byte_is = refl }
-reads_column kind byte false = record { good = refl; kind_is = refl; byte_is = refl }
+pub reads_column : (kind byte : ℕ) (u : Bool) → ValidCode kind byte → Reads (cond u (Unlike (code_with kind byte)) (Like (code_with kind byte))) kind byte
+reads_column kind byte true v = record { good = refl; kind_is = number_of_kind kind byte v; byte_is = refl }
+reads_column kind byte false v = record { good = refl; kind_is = number_of_kind kind byte v; byte_is = refl }
 
 at_char : (e : ℕ) (l : Ledger) (d n : ℕ) (xs : List ℕ) → ((number (take 7 (bits n)) ≡ 31) × (d ≡ 0)) ⊎ ((number (take 7 (bits n)) ≡ 96) × (d ≡ 1)) →
     said (hunting e l) (bits n ++ xs) ≡ said (at_start d l) (bits n ++ xs)
@@ -67,10 +68,10 @@ said_clean d l w rest v h =
 
 -- a character in its own column stands for its code
 pub reads_first : (kind byte d : ℕ) → ValidCode kind byte → d < 2 → Reads (reading 0 (encoded kind byte d) d) kind byte
-reads_first kind byte d v h = rw (decoding_undoes_encoding kind byte d v h) (reads_column kind byte (unlike kind byte))
+reads_first kind byte d v h = rw (decoding_undoes_encoding kind byte d v h, unlike_with kind byte) (reads_column kind byte (unlike kind byte) v)
 
 pub reads_later : (place byte d : ℕ) → byte < 256 → d < 2 → Reads (reading (suc place) (encoded 0 byte d) d) 0 byte
-reads_later place byte d v h = rw (decoding_undoes_encoding 0 byte d (valid_data byte v) h) (rw (lt-ltb 0 (suc place) (omega arith)) (reads_column 0 byte (unlike 0 byte)))
+reads_later place byte d v h = rw (decoding_undoes_encoding 0 byte d (valid_data byte v) h) (rw (lt-ltb 0 (suc place) (omega arith)) (reads_column 0 byte (unlike 0 byte) (valid_data byte v)))
 
 pub judged_clean : (d : ℕ) (w : Dword) → ValidDword w → d < 2 → (is_good (readings_of d (c0 d w) (c1 d w) (c2 d w) (c3 d w)) ≡ true) × (dword (readings_of d (c0 d w) (c1 d w) (c2 d w) (c3 d w)) ≡ w)
 judged_clean d w v h =

@@ -4,7 +4,7 @@ use Rattle.std.proofs.lemmas.Bool.{eq-eqb, lt-ltb, or_left, or_right}
 use Rattle.code.specs.declared.character.Code.{Code}
 use Rattle.code.specs.Bits.{number_of}
 use Rattle.code.specs.Characters.{encoded, decoded, after, unlike, valid}
-use Rattle.code.proofs.Codes.{from_true, code_with}
+use Rattle.code.proofs.Codes.{from_true}
 use Rattle.code.proofs.Laws as proved
 use Rattle.code.proofs.InvertedBits.{inverted_bit_turns_disparity}
 use Rattle.code.proofs.Commas.{comma, seen_comma_starts_k28_5, k28_5_starts_with_comma}
@@ -18,8 +18,7 @@ valid_data byte h = from_true (ltb byte 256) (lt-ltb byte 256 h)
 
 -- a code with like columns stands alike in both, and keeps either disparity
 pub like_same : (k b d e : ℕ) → ValidCode k b → unlike k b ≡ false → d < 2 → e < 2 → encoded k b d ≡ encoded k b e
-like_same k b d e v u h g =
-    sym (proved.decoded_stands_there (encoded k b d) e (code_with k b) (proved.like_columns_keep_disparity k b d e v h g u).0).1
+like_same k b d e v u h g = proved.same_column k b d e h g u
 
 pub like_keeps : (k b d e : ℕ) → ValidCode k b → unlike k b ≡ false → d < 2 → e < 2 → after (encoded k b d) e ≡ e
 like_keeps k b d e v u h g = (proved.like_columns_keep_disparity k b d e v h g u).1

@@ -1,5 +1,5 @@
 -- Numbers run on over a whole history, and a stretch holds only what was handed out.
-use Rattle.std.proofs.Common.{◌≡◌, ℕ, suc, ◌+◌, ◌<◌, ◌≤◌, List, [], ◌∷◌, ◌++◌, length, get_or, sym, refl, ap, ◌∙◌, subst, inl, inr, append_assoc, append-nil, arith, length-append, get_or-take}
+use Rattle.std.proofs.Common.{◌≡◌, ℕ, suc, ◌+◌, ◌<◌, ◌≤◌, List, [], ◌∷◌, ◌++◌, length, get_or, Option, sym, refl, ap, ◌∙◌, subst, inl, inr, append_assoc, append-nil, arith, length-append, get_or-take}
 use lib.ListN.{get_or-append}
 use Rattle.std.proofs.lemmas.Bool.{cases_lt}
 use Rattle.link.specs.declared.state.Ledger.{Ledger}
@@ -65,7 +65,7 @@ numbered_more xs m len old i lt = elim (cases_lt i m) [
   | inr ge ↦ let here : i ≡ length xs = omega arith in ap (λ k. get_or (xs ++ (m ∷ [])) k 0) here ∙ last_at xs m 0 ∙ (let e : m ≡ i = omega arith in e)
 ]
 
-in_stretch : (l : Ledger) (v : Verdict) (n : ℕ) → l.pending ≤ l.number → vouched_in (settlement v l) n → (l.number ≤ n + l.pending) × (n < l.number)
+in_stretch : (l : Ledger) (v : Option Verdict) (n : ℕ) → l.pending ≤ l.number → vouched_in (settlement v l) n → (l.number ≤ n + l.pending) × (n < l.number)
 in_stretch l v n fits h = let q = settle_vouches v l n h in
     let some : 0 < l.pending = elim (cases_lt 0 l.pending) [ inl y ↦ y | inr z ↦ absurd (q.1.0 (omega arith)) ] in
     (omega (arith, q.1.1), omega (arith, q.1.2))
@@ -78,7 +78,7 @@ next_number : (rs : List Heard) (a : Heard) (m : ℕ) → numbers_by a ≡ m ∷
 next_number rs a m is = numbers-append rs a ∙ ap (λ r. numbers rs ++ r) is
 
 module _ (rs : List Heard) (l : Ledger) (k : Kept rs l) (a : Heard) (m : Ledger) where
-  settled : (v : Verdict) (n : ℕ) → vouched_in (settlement v l) n → HandedBefore (length rs) rs n
+  settled : (v : Option Verdict) (n : ℕ) → vouched_in (settlement v l) n → HandedBefore (length rs) rs n
   settled v n h = let b = in_stretch l v n k.within h in k.stretch n b.0 b.1
 
   counted : numbers_by a ≡ l.number ∷ [] → m.number ≡ l.number + 1 → (length (numbers (rs ++ (a ∷ []))) ≡ m.number) × ((i : ℕ) → i < m.number → get_or (numbers (rs ++ (a ∷ []))) i 0 ≡ i)
@@ -91,7 +91,7 @@ module _ (rs : List Heard) (l : Ledger) (k : Kept rs l) (a : Heard) (m : Ledger)
       )
 
   -- what an answer vouches for was handed out before it
-  vouches_old : (v : Verdict) (s : Settlement) (n : ℕ) → s ≡ settlement v l → vouched_in s n → HandedBefore (length rs) rs n
+  vouches_old : (v : Option Verdict) (s : Option Settlement) (n : ℕ) → s ≡ settlement v l → vouched_in s n → HandedBefore (length rs) rs n
   vouches_old v s n e h = settled v n (subst (λ y. vouched_in y n) e h)
 
   kept_on : Moves l a m → Kept (rs ++ (a ∷ [])) m

@@ -1,5 +1,5 @@
 -- What one hearing can do, whichever way it goes.
-use Rattle.std.proofs.Common.{◌≡◌, ℕ, ◌+◌, ◌*◌, ◌%◌, ◌≤◌, min, Bool, true, false, cond, ◌&&◌, eqb, ltb, [], refl, arith}
+use Rattle.std.proofs.Common.{◌≡◌, ℕ, ◌+◌, ◌*◌, ◌%◌, ◌≤◌, min, Bool, true, false, cond, ◌&&◌, eqb, ltb, [], Option, refl, arith}
 use Rattle.link.specs.declared.heard.GoodDword.{GoodDword}
 use Rattle.link.specs.declared.heard.BadDword.{BadDword}
 use Rattle.link.specs.declared.heard.Heard.{Heard}
@@ -46,9 +46,9 @@ hearing_tells s b =
 -- what a hearing with this answer makes of a ledger: it gives no number, hands a dword out, or reports one
 pub data Moves (l : Ledger) (a : Heard) (m : Ledger) : Type 0 where
   quiet : numbers_by a ≡ [] → ((n : ℕ) → VouchedBy a n → ⊥) → m.number ≡ l.number → m.pending ≤ l.pending → Moves l a m
-  good : (g : GoodDword) (v : Verdict) → a ≡ Good g → g.settlement ≡ settlement v l → g.number ≡ l.number
+  good : (g : GoodDword) (v : Option Verdict) → a ≡ Good g → g.settlement ≡ settlement v l → g.number ≡ l.number
       → m.number ≡ l.number + 1 → m.pending ≡ still_pending v l.pending + 1 → Moves l a m
-  bad : (b : BadDword) (v : Verdict) → a ≡ Bad b → b.settlement ≡ settlement v l → b.number ≡ l.number
+  bad : (b : BadDword) (v : Option Verdict) → a ≡ Bad b → b.settlement ≡ settlement v l → b.number ≡ l.number
       → m.number ≡ l.number + 1 → m.pending ≡ 0 → Moves l a m
 
 closing_moves : (r : Readings) (l : Ledger) → Moves l (closing r l).heard (closing r l).ledger

@@ -1,17 +1,19 @@
 -- Characters heard in sync, at the sender's disparity or at the other.
 use Rattle.std.proofs.Common.{◌≡◌, ℕ, zero, suc, ◌-◌, ◌<◌, Bool, true, false, cond, ◌&&◌, eqb, ltb, ◌⊎◌, List, [], ◌∷◌, Some, None, Option, sym, refl, ap, ◌∙◌, inl, inr, arith}
+use Rattle.std.specs.Option.{option_or}
 use Rattle.std.proofs.lemmas.Bool.{cases_lt, cases_Bool, both_ways, lt-ltb}
 use Rattle.transcript.proofs.CodeFacts.{ValidCode, like_keeps, like_same, turned_leaves, unlike-refused, unlike_sets}
 use Rattle.code.specs.Characters.{encoded, decoded, after, unlike}
 use Rattle.transcript.proofs.Bits.{bits, number, turn}
 use Rattle.link.specs.declared.reading.Reading.{Reading}
-use Rattle.link.specs.declared.reading.Reading.TheVariants.{Refused, Like}
-use Rattle.link.specs.Readings.{reading, read_as, is_refused, or_then}
+use Rattle.link.specs.declared.reading.Reading.TheVariants.{Refused, Like, Unlike}
+use Rattle.link.specs.Readings.{reading, read_as, is_refused, own_verdict}
 use Rattle.link.specs.declared.reading.Verdict.{Verdict}
-use Rattle.link.specs.declared.reading.Verdict.TheVariants.{Silent, Vouches}
+use Rattle.link.specs.declared.reading.Verdict.TheVariants.{Vouches}
 use Rattle.transcript.proofs.CleanDwords.{Reads, reads_column, column}
 use Rattle.code.specs.declared.character.Code.{Code}
-use Rattle.code.proofs.Codes.{code_with}
+use Rattle.code.specs.Kinds.{kind_number, code_with}
+use Rattle.code.proofs.Codes.{unlike_with}
 use Rattle.code.proofs.Laws.{decoding_undoes_encoding, disparity_fits}
 
 -- a character of a code: as it was put, or with one bit turned
@@ -58,10 +60,14 @@ two x y h k = elim (cases_lt x 1) [
 later : (place kind byte : ℕ) → kind ≡ 0 → read_as (suc place) (Some (code_with kind byte)) ≡ column kind byte
 later place kind byte z = rw (z, lt-ltb 0 (suc place) (omega arith)) refl
 
+good_column : (c : Code) (u : Bool) → is_refused (cond u (Unlike c) (Like c)) ≡ false
+good_column c true = refl
+good_column c false = refl
+
 -- a character in its own column, at a place where its code may stand
 read_placed : (place kind byte d : ℕ) → Placed place kind byte → d < 2 → reading place (encoded kind byte d) d ≡ column kind byte
-read_placed place kind byte d (v, inl z) h = rw (decoding_undoes_encoding kind byte d v h, z) refl
-read_placed zero kind byte d (v, inr z) h = rw (decoding_undoes_encoding kind byte d v h) refl
+read_placed place kind byte d (v, inl z) h = rw (decoding_undoes_encoding kind byte d v h, z, unlike_with kind byte) refl
+read_placed zero kind byte d (v, inr z) h = rw (decoding_undoes_encoding kind byte d v h, unlike_with kind byte) refl
 read_placed (suc place) kind byte d (v, inr z) h = ap (read_as (suc place)) (decoding_undoes_encoding kind byte d v h) ∙ later place kind byte z
 
 module _ (place kind byte d n : ℕ) (v : Placed place kind byte) (h : d < 2) where
@@ -75,9 +81,9 @@ module _ (place kind byte d n : ℕ) (v : Placed place kind byte) (h : d < 2) wh
       either : (after n d ≡ d'') ⊎ (after n d ≡ 1 - d'') → Status d'' (after n d) true
       either (inl a) = inl a
       either (inr a) = inr (a, refl)
-  strike i p lt is (Some c) as_code = elim (cases_Bool (ltb 0 place && eqb c.kind 1)) [
+  strike i p lt is (Some c) as_code = elim (cases_Bool (ltb 0 place && eqb (kind_number c.kind) 1)) [
     | inl out ↦ struck refl refl (rw out refl) (either (two (after n d) d'' (disparity_fits n d h) (disparity_fits _ d h))) refl
-    | inr in_place ↦ slipped refl refl (rw in_place (reads_column c.kind c.byte (unlike c.kind c.byte)).good)
+    | inr in_place ↦ slipped refl refl (rw in_place (good_column c (unlike (kind_number c.kind) c.byte)))
         (ap (λ x. after x d) is ∙ turned_leaves kind byte d i c v.0 h lt (ap (λ x. decoded x d) (sym is) ∙ as_code)) refl
   ]
     where
@@ -88,7 +94,7 @@ module _ (place kind byte d n : ℕ) (v : Placed place kind byte) (h : d < 2) wh
 pub step : (place kind byte d e n : ℕ) (p : Bool) → Placed place kind byte → d < 2 → Status d e p → (ev : Event d kind byte n) → Allowed p ev →
     Step (is_turned ev) d e p kind byte (reading place n e) (after (encoded kind byte d) d) (after n e) (pending_after kind byte p ev)
 step place kind byte d e n p v h (inl right) (clean is) a =
-    kept refl right (rw (is, right, read_placed place kind byte d v h) (reads_column kind byte (unlike kind byte))) (rw (is, right) refl)
+    kept refl right (rw (is, right, read_placed place kind byte d v h) (reads_column kind byte (unlike kind byte) v.0)) (rw (is, right) refl)
 step place kind byte d e n p v h (inl right) (turned i lt is) a = rw right (strike place kind byte d n v h i p lt is (decoded n d) refl)
 step place kind byte d e n p v h (inr (wrong, pends)) (clean is) a = elim (cases_Bool (unlike kind byte)) [
   | inl un ↦ caught refl wrong un (rw (is, wrong, unlike-refused kind byte d v.0 un h) refl) (rw (is, wrong) (unlike_sets kind byte d v.0 un h))
@@ -114,9 +120,9 @@ pub data Steps : (d e : ℕ) (p : Bool) (d'' e'' : ℕ) (p'' : Bool) → List Ce
   more : {t : Bool} {d e kind byte d' e' d'' e'' : ℕ} {p p' p'' : Bool} {v : Reading} {cells : List Cell} → d < 2 → d' < 2 → Step t d e p kind byte v d' e' p' →
       Steps d' e' p' d'' e'' p'' cells → Steps d e p d'' e'' p'' (record { struck_bit = t; kind = kind; byte = byte; judged_as = v } ∷ cells)
 
-abbrev pub verdict_of : List Cell → Verdict
-verdict_of [] = Silent
-verdict_of (c ∷ cs) = or_then c.judged_as (verdict_of cs)
+abbrev pub verdict_of : List Cell → Option Verdict
+verdict_of [] = None
+verdict_of (c ∷ cs) = option_or (own_verdict c.judged_as) (verdict_of cs)
 
 abbrev pub Goods : List Cell → Type 0
 Goods [] = Unit {0}
@@ -130,7 +136,7 @@ apart : (d e : ℕ) → d < 2 → e ≡ d → e ≡ 1 - d → ⊥
 apart d e h a b = omega arith
 
 -- at the other disparity no character vouches before one is refused
-pub none_vouches : {d e d'' e'' : ℕ} {p p'' : Bool} {cells : List Cell} → Steps d e p d'' e'' p'' cells → e ≡ 1 - d → verdict_of cells ≡ Vouches → ⊥
+pub none_vouches : {d e d'' e'' : ℕ} {p p'' : Bool} {cells : List Cell} → Steps d e p d'' e'' p'' cells → e ≡ 1 - d → verdict_of cells ≡ Some Vouches → ⊥
 none_vouches done wrong says = let z : ◌≡◌ {A = ℕ} 0 1 = cc in omega arith
 none_vouches (more h h' (kept t right reads e) rest) wrong says = apart _ _ h right wrong
 none_vouches (more h h' (blind t w li v e p) rest) wrong says = none_vouches rest e (rw v at says)

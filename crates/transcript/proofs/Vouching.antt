@@ -1,19 +1,19 @@
 -- What is vouched for in sync was sent so.
-use Rattle.std.proofs.Common.{◌≡◌, ℕ, zero, suc, ◌+◌, ◌-◌, ◌<◌, ◌≤◌, Bool, true, false, cond, eqb, List, [], ◌∷◌, refl, ap, ◌∙◌, subst, inl, inr, arith}
+use Rattle.std.proofs.Common.{◌≡◌, ℕ, zero, suc, ◌+◌, ◌-◌, ◌<◌, ◌≤◌, Bool, true, false, cond, eqb, List, [], ◌∷◌, Some, None, Option, refl, ap, ◌∙◌, subst, inl, inr, arith}
+use Rattle.std.specs.Option.{option_map, option_or}
 use Rattle.std.proofs.lemmas.Bool.{cases_lt, cases_Bool, and_parts, eqb-false, not-true, cond-true, cond-false}
 use Rattle.link.specs.declared.dword.Dword.{Dword}
 use Rattle.link.specs.declared.state.Ledger.{Ledger}
 use Rattle.link.specs.declared.state.Closing.{Closing}
-use Rattle.link.specs.declared.heard.Settlement.TheVariants.{Unsettled}
 use Rattle.link.specs.declared.heard.Heard.{Heard}
 use Rattle.link.specs.declared.reading.Readings.{Readings}
-use Rattle.link.specs.Readings.{is_refused, is_good, dword, verdict}
+use Rattle.link.specs.Readings.{is_refused, is_good, dword, own_verdict, verdict}
 use Rattle.link.specs.declared.reading.Verdict.{Verdict}
-use Rattle.link.specs.declared.reading.Verdict.TheVariants.{Silent, Vouches, Doubts}
+use Rattle.link.specs.declared.reading.Verdict.TheVariants.{Vouches, Doubts}
 use Rattle.link.specs.Hearing.{settlement, settled_by, stretch, still_pending, in_sync, handed_out, reported}
 use Rattle.transcript.proofs.OneHearing.{either_way}
 use Rattle.transcript.specs.Laws.{VouchedBy, vouched_in}
-use Rattle.transcript.proofs.Track.{Cell, Steps, Status, Goods, AllRead, none_vouches, good_run, Nth, here, there}
+use Rattle.transcript.proofs.Track.{Cell, Steps, Status, Goods, AllRead, verdict_of, none_vouches, good_run, Nth, here, there}
 
 -- a dword in sync: what was sent, and how it was judged
 pub record Pair : Type 0 where
@@ -49,19 +49,28 @@ answer_vouches j l n =
 abbrev InStretch : Ledger → ℕ → Type 0
 InStretch l n = (l.pending ≡ 0 → ⊥) × (l.number - l.pending ≤ n) × (n ≤ l.number - 1)
 
-pub settle_vouches : (v : Verdict) (l : Ledger) (n : ℕ) → vouched_in (settlement v l) n → (v ≡ Vouches) × InStretch l n
+pub settle_vouches : (v : Option Verdict) (l : Ledger) (n : ℕ) → vouched_in (settlement v l) n → (v ≡ Some Vouches) × InStretch l n
 settle_vouches v l n = by_stretch (eqb l.pending 0) refl v
   where
-    by_stretch : (b : Bool) → eqb l.pending 0 ≡ b → (v : Verdict) → vouched_in (cond b Unsettled (settled_by v (stretch l))) n → (v ≡ Vouches) × InStretch l n
+    by_stretch : (b : Bool) → eqb l.pending 0 ≡ b → (v : Option Verdict) → vouched_in (cond b None (option_map (λ w. settled_by w (stretch l)) v)) n → (v ≡ Some Vouches) × InStretch l n
     by_stretch true e v h = absurd h
-    by_stretch false e Silent h = absurd h
-    by_stretch false e Vouches h = (refl, (eqb-false _ _ e, h.0, h.1))
-    by_stretch false e Doubts h = absurd h
+    by_stretch false e None h = absurd h
+    by_stretch false e (Some Vouches) h = (refl, (eqb-false _ _ e, h.0, h.1))
+    by_stretch false e (Some Doubts) h = absurd h
 
-pub still_le : (v : Verdict) (n : ℕ) → still_pending v n ≤ n
-still_le Silent n = omega arith
-still_le Vouches n = omega arith
-still_le Doubts n = omega arith
+pub still_le : (v : Option Verdict) (n : ℕ) → still_pending v n ≤ n
+still_le None n = omega arith
+still_le (Some v) n = omega arith
+
+or_none : (v : Option Verdict) → option_or v None ≡ v
+or_none None = refl
+or_none (Some v) = refl
+
+-- the verdict of four characters is that of the run of them
+run_verdict : (t₀ t₁ t₂ t₃ : Bool) (x : Pair) → verdict_of (four t₀ t₁ t₂ t₃ x) ≡ verdict x.judged_as
+run_verdict t₀ t₁ t₂ t₃ x =
+    let j = x.judged_as in
+    ap (λ v. option_or (own_verdict j.first) (option_or (own_verdict j.second) (option_or (own_verdict j.third) v))) (or_none (own_verdict j.fourth))
 
 -- a good dword has no refused character
 pub good_parts : (r : Readings) → is_good r ≡ true
@@ -97,7 +106,7 @@ module _ (R : ℕ → Type 0) where
       let some : 0 < l.pending = elim (cases_lt 0 l.pending) [ inl y ↦ y | inr z ↦ absurd (q.1.0 (omega arith)) ] in
       elim status [
         | inl right ↦ stretch-right right n (omega (arith, q.1.1)) (omega (arith, q.1.2))
-        | inr wrong ↦ absurd (none_vouches steps wrong.0 q.0)
+        | inr wrong ↦ absurd (none_vouches steps wrong.0 (run_verdict t₀ t₁ t₂ t₃ x ∙ q.0))
       ]
   vouched_right (x ∷ xs) l {d} {e} (hears t₀ t₁ t₂ t₃ status h'' steps track) h few stretch-right all (suc i) n a (there nth) vouch =
       let j = x.judged_as in

@@ -1,10 +1,10 @@
 -- The laws of a link, over whole histories, in words of what was sent, put, turned, heard, handed out, reported and lost.
 -- Neither a receiver's state nor its step occurs here.
-use Rattle.std.specs.Prelude.{◌≡◌, ℕ, zero, suc, ◌+◌, ◌*◌, ◌/◌, ◌%◌, ◌^◌, ◌<◌, ◌≤◌, Bool, true, cond, ◌&&◌, ◌⊎◌, List, [], ◌∷◌, ◌++◌, length, get_or, take, drop, ◌==◌, ◌≢◌, slice_index, slice_index_or}
+use Rattle.std.specs.Prelude.{◌≡◌, ℕ, zero, suc, ◌+◌, ◌*◌, ◌/◌, ◌%◌, ◌^◌, ◌<◌, ◌≤◌, Bool, true, cond, ◌&&◌, ◌⊎◌, Some, None, Option, List, [], ◌∷◌, ◌++◌, length, get_or, take, drop, ◌==◌, ◌≢◌, slice_index, slice_index_or}
 use Rattle.code.specs.Characters.{unlike}
 use Rattle.link.specs.declared.dword.Dword.{Dword}
 use Rattle.link.specs.declared.heard.Settlement.{Settlement}
-use Rattle.link.specs.declared.heard.Settlement.TheVariants.{Unsettled, Vouched, Doubtful}
+use Rattle.link.specs.declared.heard.Settlement.TheVariants.{Vouched, Doubtful}
 use Rattle.link.specs.declared.heard.GoodDword.{GoodDword}
 use Rattle.link.specs.declared.heard.BadDword.{BadDword}
 use Rattle.link.specs.declared.heard.Heard.{Heard}
@@ -129,10 +129,10 @@ pub record Spaced (d : ℕ) (h : History) : Type 0 where
       → (c : ℕ) × ((p < 10 * c) × (10 * c + 10 ≤ q) × UnlikeAt h c × Clean d h c)
 
 -- An answer vouches for a number.
-abbrev pub vouched_in : Settlement → ℕ → Type 0
-vouched_in Unsettled n = ⊥
-vouched_in (Vouched span) n = (span.first ≤ n) × (n ≤ span.last)
-vouched_in (Doubtful span) n = ⊥
+abbrev pub vouched_in : Option Settlement → ℕ → Type 0
+vouched_in None n = ⊥
+vouched_in (Some (Vouched span)) n = (span.first ≤ n) × (n ≤ span.last)
+vouched_in (Some (Doubtful span)) n = ⊥
 
 abbrev pub VouchedBy : Heard → ℕ → Type 0
 VouchedBy Dry n = ⊥

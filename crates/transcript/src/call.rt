@@ -5,7 +5,7 @@ use link::heard::Heard;
 use link::receiver::hearing::HearRefusal;
 use link::sender::SendRefusal;
 
-#[derive(Clone, Copy)]
+#[derive(Clone, Copy, PartialEq, Eq, Debug)]
 pub enum LinkCall {
     Send(Dword),
     Turn(usize),
@@ -14,7 +14,7 @@ pub enum LinkCall {
 }
 
 // A call with its answer.
-#[derive(Clone, Copy)]
+#[derive(Clone, Copy, PartialEq, Eq, Debug)]
 pub enum LinkEvent {
     Send(Dword, Result<(), SendRefusal>),
     Turn(usize, Result<(), TurnRefusal>),

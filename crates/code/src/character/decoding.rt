@@ -1,10 +1,12 @@
 // Decoding: from a character to the code that stands for it in a column.
 ghost use Rattle.std.specs.Prelude.{◌≡◌, ◌<◌, ◌&&◌, ◌==◌};
+ghost use Rattle.code.specs.Kinds.{kind_number};
 ghost use Rattle.code.specs.Characters.{encoded, valid, unlike, decoded, OnlyCode};
 ghost use Rattle.code.specs.Refusals.{numbered};
 ghost use Rattle.code.specs.Decodings.{decode_refusal, decoding};
 
-use super::{Code, K28_3, K28_5, character_of, next_disparity};
+use super::numbers::Kind;
+use super::{Code, next_disparity};
 use crate::refusal::Refusal;
 use crate::tables::{HIGH_OF_FOUR, LOW_OF_SIX};
 
@@ -44,17 +46,17 @@ fn only_code(character: u16) -> Code
     let four = character % 16;
     if six == 0b001111 {
         Code {
-            kind: 1,
+            kind: Kind::Special,
             byte: HIGH_OF_FOUR[four as usize] * 32 + 28,
         }
     } else if six == 0b110000 {
         Code {
-            kind: 1,
+            kind: Kind::Special,
             byte: HIGH_OF_FOUR[(15 - four) as usize] * 32 + 28,
         }
     } else {
         Code {
-            kind: 0,
+            kind: Kind::Data,
             byte: HIGH_OF_FOUR[four as usize] * 32 + LOW_OF_SIX[six as usize],
         }
     }
@@ -63,11 +65,9 @@ fn only_code(character: u16) -> Code
 // Whether a code is valid and has the character at the disparity.
 fn stands(code: Code, character: u16, disparity: u8) -> bool
     requires { disparity < 2 }
-    ensures { result ≡ (valid code.kind code.byte && (encoded code.kind code.byte disparity) == character) }
+    ensures { result ≡ (valid (kind_number code.kind) code.byte && (encoded (kind_number code.kind) code.byte disparity) == character) }
 {
-    let special = code.kind == 1 && (code.byte == K28_3 || code.byte == K28_5);
-    (code.kind == 0 || special)
-        && character_of(code.kind, code.byte, disparity).character == character
+    code.is_valid() && code.encoded(disparity).character == character
 }
 
 // The code that a character stands for in the column of the disparity.
@@ -103,10 +103,11 @@ pub fn decode(character: u16, disparity: u8) -> Result<Decoded, DecodeRefusal>
     }
 }
 
-// Whether the two characters of a code differ.
-pub fn has_unlike_columns(code: Code) -> bool
-    ensures { result ≡ unlike code.kind code.byte }
+// Whether the two characters of a code differ. Every kind but 0 is taken for a special one.
+// Kept: the kind is a number, since this is asked of every one, and answered.
+pub fn has_unlike_columns(kind: u8, byte: u8) -> bool
+    ensures { result ≡ unlike kind byte }
 {
-    character_of(code.kind, code.byte, 0).character
-        != character_of(code.kind, code.byte, 1).character
+    let kind = Kind::try_from(kind).unwrap_or(Kind::Special);
+    Code { kind, byte }.has_unlike_columns()
 }

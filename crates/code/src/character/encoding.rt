@@ -2,11 +2,13 @@
 ghost use Rattle.std.specs.Prelude.{◌≡◌};
 ghost use Rattle.code.specs.Refusals.{numbered};
 ghost use Rattle.code.specs.Encodings.{encode_refusal, encoding};
+ghost use Rattle.code.specs.declared.character.encoding.EncodeRefusal.TheVariants.{KindAboveOne};
 
-use super::{Encoded, K28_3, K28_5, character_of};
+use super::numbers::{Kind, UnknownKind};
+use super::{Code, Encoded};
 use crate::refusal::Refusal;
 
-#[derive(Clone, Copy)]
+#[derive(Clone, Copy, PartialEq, Eq, Debug)]
 pub enum EncodeRefusal {
     KindAboveOne,
     NotSpecial,
@@ -25,18 +27,26 @@ impl Refusal for EncodeRefusal {
     }
 }
 
+impl From<UnknownKind> for EncodeRefusal {
+    ghost from_gives = { λ unknown refusal. refusal ≡ KindAboveOne };
+
+    fn from(_unknown: UnknownKind) -> EncodeRefusal {
+        EncodeRefusal::KindAboveOne
+    }
+}
+
 // The character of a code at a disparity, and the disparity after it.
+// Kept: kind and disparity are numbers, since those above 1 are refused by number, and C calls this.
 pub fn encode(kind: u8, byte: u8, disparity: u8) -> Result<Encoded, EncodeRefusal>
     ensures { numbered encode_refusal result ≡ encoding kind byte disparity }
 {
-    if kind > 1 {
-        return Err(EncodeRefusal::KindAboveOne);
-    }
-    if kind == 1 && byte != K28_3 && byte != K28_5 {
+    let kind = Kind::try_from(kind)?;
+    let code = Code { kind, byte };
+    if !code.is_valid() {
         return Err(EncodeRefusal::NotSpecial);
     }
     if disparity > 1 {
         return Err(EncodeRefusal::DisparityAboveOne);
     }
-    Ok(character_of(kind, byte, disparity))
+    Ok(code.encoded(disparity))
 }

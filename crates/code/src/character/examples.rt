@@ -6,6 +6,7 @@ ghost use Rattle.code.specs.Laws.{CodeLaws, Examples};
 
 use super::decoding::{DecodeRefusal, decode};
 use super::encoding::encode;
+use super::numbers::Kind;
 
 // Whether encoding gives this character and this disparity after it.
 fn encodes(kind: u8, byte: u8, disparity: u8, character: u16, next: u8) -> bool
@@ -22,7 +23,7 @@ fn decodes(character: u16, disparity: u8, byte: u8, next: u8) -> bool
     ensures { result ≡ is_decoded (decoding character disparity) byte next }
 {
     match decode(character, disparity) {
-        Ok(decoded) => decoded.code.kind == 0
+        Ok(decoded) => decoded.code.kind == Kind::Data
             && decoded.code.byte == byte
             && decoded.disparity == next,
         Err(_) => false,

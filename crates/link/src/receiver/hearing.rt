@@ -7,12 +7,12 @@ ghost use Rattle.link.specs.Hearing.{fresh, empty_frame, settlement, still_pendi
 ghost use Rattle.link.specs.Sound.{SoundLedger, Sound};
 ghost use Rattle.link.specs.Receiving.{hear_refusal, heard_from, Untouched};
 
-use crate::dword::K28_5;
 use crate::heard::{BadDword, GoodDword, Heard, Settlement, Span};
 use crate::reading::{Reading, Readings, Verdict};
 use crate::receiver::Receiver;
 use crate::state::{Closing, Framing, Hearing, Ledger, State};
-use code::{DecodeRefusal, decode};
+use code::refusal::Refusal;
+use code::{DecodeRefusal, K28_5, decode};
 use line::tap::Tap;
 
 // A K28.5 begins with one of these seven bits, at minus and at plus.
@@ -21,7 +21,7 @@ const COMMA_AT_MINUS: u16 = 0b0011111;
 const COMMA_AT_PLUS: u16 = 0b1100000;
 
 // Every number that a dword can have is given.
-#[derive(Clone, Copy)]
+#[derive(Clone, Copy, PartialEq, Eq, Debug)]
 pub enum HearRefusal {
     NumbersSpent,
 }
@@ -40,31 +40,26 @@ fn empty_frame(hunting: bool) -> Framing
     }
 }
 
-fn settle(verdict: Verdict, ledger: Ledger) -> Settlement
+fn settle(verdict: Option<Verdict>, ledger: Ledger) -> Option<Settlement>
     ensures { result ≡ settlement verdict ledger }
 {
     if ledger.pending == 0 {
-        return Settlement::Unsettled;
+        return None;
     }
     let span = Span {
         first: ledger.number.saturating_sub(ledger.pending),
         last: ledger.number.saturating_sub(1),
     };
-    match verdict {
-        Verdict::Silent => Settlement::Unsettled,
+    verdict.map(|verdict| match verdict {
         Verdict::Vouches => Settlement::Vouched(span),
         Verdict::Doubts => Settlement::Doubtful(span),
-    }
+    })
 }
 
-fn still_pending(verdict: Verdict, pending: u32) -> u32
+fn still_pending(verdict: Option<Verdict>, pending: u32) -> u32
     ensures { (result ≡ still_pending verdict pending) × (result ≤ pending) }
 {
-    match verdict {
-        Verdict::Silent => pending,
-        Verdict::Vouches => 0,
-        Verdict::Doubts => 0,
-    }
+    if verdict.is_none() { pending } else { 0 }
 }
 
 fn is_k28_5(readings: Readings) -> bool
@@ -331,11 +326,10 @@ fn hear_bit(state: State, bit: u8) -> Hearing
     }
 }
 
-impl HearRefusal {
-    // The number that the refusal goes by.
-    pub fn number(self) -> u8
-        ensures { result ≡ (hear_refusal self).number }
-    {
+impl Refusal for HearRefusal {
+    ghost number_of = { λ r. (hear_refusal r).number };
+
+    fn number(&self) -> u8 {
         match self {
             HearRefusal::NumbersSpent => 7,
         }

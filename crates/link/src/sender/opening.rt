@@ -4,18 +4,20 @@ ghost use Rattle.link.specs.Opening.{open_refusal, opened, opening};
 
 use crate::sender::{OpenRefusal, Sender};
 use bringup::end::{End, Outcome};
+use code::refusal::Refusal;
 
-impl OpenRefusal {
-    // The number that the refusal goes by.
-    pub fn number(&self) -> u8
-        ensures { result ≡ (open_refusal self.now).number }
-    {
+impl Refusal for OpenRefusal {
+    ghost number_of = { λ r. (open_refusal r).number };
+
+    fn number(&self) -> u8 {
         match self {
             OpenRefusal::DisparityAboveOne(_) => 14,
             OpenRefusal::NotReady(_) => 13,
         }
     }
+}
 
+impl OpenRefusal {
     // The end that was to be opened from, as it was.
     pub fn into_end(self) -> End
         ensures { result ≡ (open_refusal self).end }

@@ -7,19 +7,19 @@ ghost use Rattle.line.specs.Writing.{Still};
 ghost use Rattle.link.specs.Sending.{ValidDword, disparity_after, dword_bits, send_refusal, sending};
 ghost use Rattle.link.specs.Accepting.{Accepted, checked_dword, checked_room, followed_by};
 
-use crate::dword::{Dword, K28_3, K28_5};
+use crate::dword::Dword;
 use crate::sender::{SendRefusal, Sender};
-use code::encode;
+use code::refusal::Refusal;
+use code::{K28_3, K28_5, encode};
 use line::tap::Line;
 
 // The bits of a dword.
 const DWORD_BITS: usize = 40;
 
-impl SendRefusal {
-    // The number that the refusal goes by.
-    pub fn number(self) -> u8
-        ensures { result ≡ (send_refusal self).number }
-    {
+impl Refusal for SendRefusal {
+    ghost number_of = { λ r. (send_refusal r).number };
+
+    fn number(&self) -> u8 {
         match self {
             SendRefusal::KindAboveOne => 5,
             SendRefusal::NotSpecial => 6,
