@@ -1,12 +1,11 @@
 // Any list of calls on two ends that nobody has used.
 ghost use Rattle.std.specs.Prelude.{◌≡◌, ◌≤◌, length, IfOk};
-ghost use Rattle.runs.specs.EndRuns.{stepped, answered, end_refusal, Stand, EndsCalled, EndRunOf};
-ghost use Rattle.runs.specs.LentRuns.{courses, Written};
 ghost use Rattle.code.specs.Refusals.{numbered};
 ghost use Rattle.runs.specs.declared.ends.EndRefusal.TheVariants.{Start, Note};
+ghost use Rattle.runs.specs.EndRuns.{stepped, answered, end_refusal, Stand, EndsCalled, EndRunOf};
+ghost use Rattle.runs.specs.LentRuns.{courses, Written, EndsAgree};
 
 use crate::driving::{Driven, drive};
-use crate::lent::ends_agree;
 use bringup::end::End;
 use bringup::end::noting::{NoteRefusal, StartRefusal};
 use code::refusal::Refusal;
@@ -120,6 +119,11 @@ pub(crate) fn make_calls(calls: &[EndCall], answers: &mut [EndAnswer]) -> TwoEnd
     drive(&mut ends, calls, answers);
     ends
 }
+
+// The law of agreement, which holds of any calls: there is nothing to do for it.
+pub(crate) fn ends_agree(_calls: &[EndCall])
+    ensures { EndsAgree _calls.now }
+{}
 
 // Makes the calls on two ends that nobody has used, and gives the ends and every answer. That the two ends agree on a
 // fair line is part of the promise. Want of memory for the answers is the only thing that it can decline for.

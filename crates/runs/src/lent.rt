@@ -1,15 +1,10 @@
 // Any list of calls on two ends that nobody has used, with every answer written into lent memory.
-ghost use Rattle.std.specs.Prelude.{◌≡◌, ◌≤◌, length, IfOk};
+ghost use Rattle.std.specs.Prelude.{length, IfOk};
 ghost use Rattle.runs.specs.EndRuns.{Stand};
 ghost use Rattle.runs.specs.LentRuns.{courses, Written, Answered, Declined, EndsAgree};
 
-use crate::ends::{EndAnswer, EndCall, TwoEnds, make_calls};
+use crate::ends::{EndAnswer, EndCall, TwoEnds, ends_agree, make_calls};
 use crate::refusal::RunRefusal;
-
-// The law of agreement, which holds of any calls: there is nothing to do for it.
-pub(crate) fn ends_agree(_calls: &[EndCall])
-    ensures { EndsAgree _calls.now }
-{}
 
 // Makes the calls on two ends that nobody has used, and gives the ends. Each answer goes to its place in the memory; if
 // there are fewer places than calls, nothing is done. That the two ends agree on a fair line is part of the promise.

@@ -7,8 +7,7 @@ ghost use Rattle.runs.specs.LentRuns.{courses, Written, EndsAgree};
 ghost use Rattle.runs.specs.LinkRuns.{LinkRan, SamePlaces};
 ghost use Rattle.runs.specs.WholeRuns.{WholeDeclined};
 
-use crate::ends::{EndAnswer, EndCall, TwoEnds, make_calls};
-use crate::lent::ends_agree;
+use crate::ends::{EndAnswer, EndCall, TwoEnds, ends_agree, make_calls};
 use crate::links::LinkRun;
 use crate::refusal::RunRefusal;
 use line::tap::{Line, Tap};
