@@ -3,3 +3,4 @@ pub mod Writing
 pub mod Cyclic
 pub mod Recordings
 pub mod Opening
+pub mod Rings

@@ -1,5 +1,5 @@
 // Four characters sent together: kind 0 is four data codes, kind 1 a special code and three data codes.
-#[derive(Clone, Copy, PartialEq, Eq, Debug)]
+#[derive(Clone, Copy, PartialEq, Eq, Default, Debug)]
 pub struct Dword {
     pub kind: u8,
     pub b0: u8,

@@ -1,8 +1,7 @@
 -- One turn of listening: a collection into empty queues with room for one dword and three reports, and the lines of it.
-use Rattle.std.proofs.Common.{◌≡◌, ℕ, ◌+◌, ◌<◌, List, [], ◌++◌, length, sym, refl, ap, ◌∙◌, subst, ap₂, append_assoc, arith}
+use Rattle.std.proofs.Common.{◌≡◌, ℕ, ◌+◌, ◌<◌, ◌⊎◌, List, [], ◌++◌, length, sym, refl, ap, ◌∙◌, ⊎_elim, subst, ap₂, append_assoc, arith}
 use Rattle.link.specs.declared.receiver.hearing.HearRefusal.{HearRefusal}
 use Rattle.link.specs.declared.state.State.{State}
-use Rattle.link.specs.Receiving.{most_numbers}
 use Rattle.reports.specs.declared.queue.Queue.{Queue}
 use Rattle.reports.specs.declared.record.DwordRecord.{DwordRecord}
 use Rattle.reports.specs.declared.report.Report.{Report}
@@ -10,13 +9,13 @@ use Rattle.reports.specs.declared.collecting.Stop.{Stop}
 use Rattle.reports.specs.declared.collecting.Stop.TheVariants as stop
 use Rattle.reports.specs.Queues.{elements, memory_of, room_of, Kept}
 use Rattle.reports.specs.Collecting.{Collection, Collects, collected}
-use Rattle.reports.proofs.QueueLaws.{length_shown}
+use Rattle.reports.proofs.QueueLaws.{length_elements}
 use Rattle.listening.specs.Listening.{report_lines, dword_lines, told, taken}
-use Rattle.listening.proofs.Tellings.{told-after, Ends, ends}
+use Rattle.listening.proofs.Tellings.{told-after, told_none, Ends, ends}
 
 -- an empty queue has room for all its places
 room_empty : {T : Type 0} (q : Queue T) (n : ℕ) → elements q ≡ [] → length (memory_of q) ≡ n → room_of q ≡ n
-room_empty q n e m = omega (arith, length_shown (memory_of q) q.front q.count, ap length e, m)
+room_empty q n e m = omega (arith, length_elements q, ap length e, m)
 
 -- what was pushed into an empty queue is all that it holds
 all_kept : {T : Type 0} (q q' : Queue T) (xs : List T) → elements q ≡ [] → Kept q xs q' → elements q' ≡ xs
@@ -33,8 +32,7 @@ progress (stop.Declined refusal) c e d r = absurd (r refusal refl)
 pub record Turn (s s' : State) (bits bits' : List ℕ) (n : ℕ) (why : Stop) (text text' : List ℕ) : Type 0 where
   pub lines : text' ++ told s' bits' ≡ text ++ told s bits
   pub count : length bits + taken s' bits' ≡ length bits' + taken s bits
-  pub over : why ≡ stop.Dry → bits' ≡ []
-  pub spent : (r : HearRefusal) → why ≡ stop.Declined r → s'.ledger.number ≡ most_numbers
+  pub over : (why ≡ stop.Dry) ⊎ ((r : HearRefusal) × (why ≡ stop.Declined r)) → (told s' bits' ≡ []) × (taken s' bits' ≡ 0)
   pub shorter : length bits' + n ≡ length bits
   pub more : (why ≡ stop.Dry → ⊥) → ((r : HearRefusal) → why ≡ stop.Declined r → ⊥) → 0 < n
 
@@ -63,8 +61,10 @@ module _
               ap (λ (y : List ℕ). y ++ told s' bits') (t₂ ∙ (ap (λ (y : List ℕ). y ++ dwords) t₁ ∙ append_assoc text reports dwords))
               ∙ (append_assoc text (reports ++ dwords) (told s' bits') ∙ ap (λ (y : List ℕ). text ++ y) (sym now));
           count = omega (arith, t.count, gone, x.taken, ap₂ (λ (y : State) (ys : List ℕ). taken y ys) x.after x.left);
-          over = λ w. x.left ∙ subst (λ (y : Stop). Ends y whole) w e;
-          spent = λ r w. ap (λ (y : State). y.ledger.number) x.after ∙ subst (λ (y : Stop). Ends y whole) w e;
+          over =
+              ⊎_elim
+              (λ w. let none : bits' ≡ [] = x.left ∙ subst (λ (y : Stop). Ends y whole) w e in (ap (told s') none, ap (taken s') none))
+              (λ w. told_none s' bits' (ap (λ (y : State). y.ledger.number) x.after ∙ subst (λ (y : Stop). Ends y whole) w.1 e));
           shorter = omega (arith, gone);
           more = λ dry declined. omega (arith, x.taken, progress why whole e dry declined);
         }

@@ -1,5 +1,5 @@
 -- The text of all that is heard in a tap, and what listening to a recording answers.
-use Rattle.std.specs.Prelude.{◌≡◌, ℕ, ◌+◌, cond, List, [], ◌∷◌, ◌++◌, Ok, Err, string_bytes, codes, decimal, Result, String, ◌==◌}
+use Rattle.std.specs.Prelude.{◌≡◌, ℕ, ◌+◌, cond, List, [], ◌∷◌, ◌++◌, Some, None, Ok, Err, string_bytes, codes, decimal, Option, Result, String, ◌==◌}
 use Rattle.std.specs.declared.alloc.Global.{Global}
 use Rattle.code.specs.Refusals.{Refusal}
 use Rattle.line.specs.Waiting.{Meaning}
@@ -19,14 +19,22 @@ told s [] = []
 told s (bit ∷ bits) =
     cond (s.ledger.number == most_numbers) [] (heard_lines (hearing s bit).heard ++ told (hearing s bit).state bits)
 
+-- The text of an output, where it is known.
+abbrev pub text_of : Option (List ℕ) → List ℕ
+text_of (Some text) = text
+text_of None = []
+
+-- What some values print, a line each.
+abbrev pub lines_of : {X : Type 0} → (X → Option (List ℕ)) → List X → List ℕ
+lines_of output [] = []
+lines_of output (x ∷ xs) = line (text_of (output x)) ++ lines_of output xs
+
 -- The lines of collected reports, and of collected dwords.
 abbrev pub report_lines : List Report → List ℕ
-report_lines [] = []
-report_lines (report ∷ reports) = line (report_text report) ++ report_lines reports
+report_lines = lines_of (λ (report : Report). Some (report_text report))
 
 abbrev pub dword_lines : List DwordRecord → List ℕ
-dword_lines [] = []
-dword_lines (dword ∷ dwords) = line (dword_text dword) ++ dword_lines dwords
+dword_lines = lines_of (λ (dword : DwordRecord). Some (dword_text dword))
 
 -- How many bits are taken.
 abbrev pub taken : State → List ℕ → ℕ

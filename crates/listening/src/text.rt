@@ -1,12 +1,11 @@
 // Listening: the text of all that is heard in a tap, or in a recording.
-ghost use Rattle.std.specs.Prelude.{◌≡◌, [], ◌++◌, IfOk, Some, string_bytes, OnOk};
+ghost use Rattle.std.specs.Prelude.{◌≡◌, [], ◌++◌, IfOk, Some, string_bytes, OnOk, IsSome};
 ghost use Rattle.listening.specs.declared.text.ListenFault.TheVariants.{NotOpened, NoMemory};
 ghost use Rattle.reports.specs.Queues.{elements, memory_of};
-ghost use Rattle.listening.specs.Listening.{report_lines, dword_lines, told, taken, listening, Listened, fault_text};
+ghost use Rattle.listening.specs.Listening.{lines_of, told, taken, listening, Listened, fault_text};
 
 use line::recording::{Recording, RecordingFault};
 use line::tap::Tap;
-use link::dword::Dword;
 use link::receiver::Receiver;
 use reports::collecting::{Stop, collect};
 use reports::queue::Queue;
@@ -14,18 +13,6 @@ use reports::record::DwordRecord;
 use reports::report::{EndOfTap, Report};
 use std::alloc::Global;
 use std::fmt;
-
-// What stands in memory that holds no dword yet.
-const NO_DWORD: DwordRecord = DwordRecord {
-    number: 0,
-    dword: Dword {
-        kind: 0,
-        b0: 0,
-        b1: 0,
-        b2: 0,
-        b3: 0,
-    },
-};
 
 // Why listening gave up: the recording was not opened, for this whole reason, or memory for the text was wanting.
 #[derive(Clone, Copy)]
@@ -67,26 +54,15 @@ impl fmt::Display for ListenFault {
     }
 }
 
-// Appends the lines of the reports to the text, and empties their queue.
-fn tell_reports(text: &mut String, reports: &mut Queue<'_, Report>) -> fmt::Result
-    ensures text { OnOk result (string_bytes text.new ≡ string_bytes text.old ++ report_lines (elements reports.old)) }
-    ensures empty { OnOk result (elements reports.new ≡ []) }
-    ensures memory { OnOk result (memory_of reports.new ≡ memory_of reports.old) }
+// Appends a line for each element to the text, and empties the queue.
+fn tell_lines<T: Copy + fmt::Display>(text: &mut String, queue: &mut Queue<'_, T>) -> fmt::Result
+    requires { (x : T) → IsSome (T.output x) }
+    ensures text { OnOk result (string_bytes text.new ≡ string_bytes text.old ++ lines_of T.output (elements queue.old)) }
+    ensures empty { OnOk result (elements queue.new ≡ []) }
+    ensures memory { OnOk result (memory_of queue.new ≡ memory_of queue.old) }
 {
-    while let Some(report) = reports.pop() {
-        text.writeln(report)?;
-    }
-    Ok(())
-}
-
-// The same for dwords.
-fn tell_dwords(text: &mut String, dwords: &mut Queue<'_, DwordRecord>) -> fmt::Result
-    ensures text { OnOk result (string_bytes text.new ≡ string_bytes text.old ++ dword_lines (elements dwords.old)) }
-    ensures empty { OnOk result (elements dwords.new ≡ []) }
-    ensures memory { OnOk result (memory_of dwords.new ≡ memory_of dwords.old) }
-{
-    while let Some(dword) = dwords.pop() {
-        text.writeln(dword)?;
+    while let Some(element) = queue.pop() {
+        text.writeln(element)?;
     }
     Ok(())
 }
@@ -101,19 +77,17 @@ fn tell_all<T: Tap>(
     ensures text { IfOk result (λ n. string_bytes text.new ≡ string_bytes text.old ++ told receiver.old.state (T.meaning tap.old).waiting) }
     ensures taken { IfOk result (λ n. n ≡ taken receiver.old.state (T.meaning tap.old).waiting) }
 {
-    let mut dword_memory = [NO_DWORD; 1];
+    let mut dword_memory = [DwordRecord::default(); 1];
     let mut report_memory = [Report::Lost; 3];
     let mut dwords = Queue::over(&mut dword_memory);
     let mut reports = Queue::over(&mut report_memory);
     let before = tap.count();
     'hearing: loop {
         let collected = collect(receiver, tap, usize::MAX, &mut dwords, &mut reports);
-        tell_reports(text, &mut reports)?;
-        tell_dwords(text, &mut dwords)?;
-        match collected.stop {
-            Stop::Dry => return Ok(before - tap.count()),
-            Stop::Declined(_) => return Ok(before - tap.count()),
-            _ => {}
+        tell_lines(text, &mut reports)?;
+        tell_lines(text, &mut dwords)?;
+        if let Stop::Dry | Stop::Declined(_) = collected.stop {
+            return Ok(before - tap.count());
         }
     }
 }

@@ -1,8 +1,11 @@
 -- Collecting, one hearing after the other: whatever is collected from here on completes the whole.
-use Rattle.std.proofs.Common.{◌≡◌, ℕ, ◌+◌, ◌-◌, ◌<◌, ◌≤◌, cond, eqb, ltb, List, [], ◌∷◌, length, sym, refl, ap, ◌∙◌, subst, ap₂, arith}
+use Rattle.std.proofs.Common.{◌≡◌, ℕ, ◌+◌, ◌-◌, ◌<◌, ◌≤◌, cond, eqb, ltb, List, [], ◌∷◌, ◌++◌, length, Option, Some, None, sym, refl, ap, ◌∙◌, subst, ap₂, arith, length-append}
 use Rattle.std.proofs.lemmas.Bool.{cond-true, cond-false, ne_eqb, eq-eqb, lt-ltb, le-ltb}
 use Rattle.line.specs.Waiting.{Meaning}
+use Rattle.std.specs.Bool.{then_some}
+use Rattle.std.specs.Option.{option_map, option_to_list}
 use Rattle.link.specs.declared.heard.Heard.{Heard}
+use Rattle.link.specs.declared.heard.Heard.TheVariants as heard
 use Rattle.link.specs.declared.receiver.hearing.HearRefusal.{HearRefusal}
 use Rattle.link.specs.declared.receiver.hearing.HearRefusal.TheVariants.{NumbersSpent}
 use Rattle.link.specs.declared.state.State.{State}
@@ -11,10 +14,12 @@ use Rattle.link.proofs.Hearings.{TookBit}
 use Rattle.reports.specs.declared.queue.Queue.{Queue}
 use Rattle.reports.specs.declared.record.DwordRecord.{DwordRecord}
 use Rattle.reports.specs.declared.report.Report.{Report}
+use Rattle.reports.specs.declared.report.Report.TheVariants.{Bad, Lost}
 use Rattle.reports.specs.declared.collecting.Stop.{Stop}
 use Rattle.reports.specs.declared.collecting.Stop.TheVariants.{Dry, Spent, DwordsFull, ReportsFull, Declined}
 use Rattle.reports.specs.Queues.{Kept}
-use Rattle.reports.specs.Collecting.{dwords_of, reports_of, Collection, stopped, after_one, collected, Collects}
+use Rattle.reports.specs.Collecting.{dwords_of, settlement_reports, lost_reports, reports_of, Collection, stopped, after_one, collected, Collects}
+use Rattle.reports.specs.Shown.{bad_report, settlement_report}
 use Rattle.reports.proofs.Keeping.{kept_none, kept_then}
 
 -- ---- what a collection comes to, by its first test that applies
@@ -98,3 +103,38 @@ completes_last c whole i j d₀ d p₀ p stop stop' s bits f e h r =
     let y : Collects (stopped stop s bits) 0 stop' s bits d d p p = record
     { taken = refl; because = r; after = refl; left = refl; kept_dwords = kept_none d; kept_reports = kept_none p } in
     counted (f 0 stop' s bits d p (subst (λ (k : Collection). Collects k 0 stop' s bits d d p p) (sym e) y)) (omega arith)
+
+-- where collecting stops for a reason, but for the dry tap that comes before it
+pub stops_here : (most room places : ℕ) (whole : Collection) (i j : ℕ) (d₀ d : Queue DwordRecord) (p₀ p : Queue Report) (why stop : Stop) (s s' : State) (tap tap' : Meaning)
+    → Completes (collected most room places s tap.waiting) whole i d₀ d p₀ p
+    → (0 < length tap.waiting → collected most room places s tap.waiting ≡ stopped why s tap.waiting)
+    → s' ≡ s → tap' ≡ tap → j ≡ i → stop ≡ cond (eqb (length tap'.waiting) 0) Dry why
+    → Collects whole j stop s' tap'.waiting d₀ d p₀ p
+stops_here most room places whole i j d₀ d p₀ p why stop s s' tap tap' f reason same left n r =
+    let e = or_dry most room places s why tap.waiting reason in
+    let now = ap₂ (λ (x : State) (m : Meaning). stopped (cond (eqb (length m.waiting) 0) Dry why) x m.waiting) (sym same) (sym left) in
+    completes_last _ whole i j d₀ d p₀ p (cond (eqb (length tap'.waiting) 0) Dry why) stop s' tap'.waiting f (e ∙ now) n r
+
+-- an answer hands out one dword and three reports at most
+length_listed : {X : Type 0} (o : Option X) → length (option_to_list o) ≤ 1
+length_listed None = omega arith
+length_listed (Some x) = omega arith
+
+pub few_dwords : (heard : Heard) → length (dwords_of heard) ≤ 1
+few_dwords heard.Dry = omega arith
+few_dwords heard.More = omega arith
+few_dwords heard.Slip = omega arith
+few_dwords heard.Gained = omega arith
+few_dwords (heard.Good g) = omega arith
+few_dwords (heard.Bad b) = omega arith
+
+pub few_reports : (heard : Heard) → length (reports_of heard) ≤ 3
+few_reports heard.Dry = omega arith
+few_reports heard.More = omega arith
+few_reports heard.Slip = omega arith
+few_reports heard.Gained = omega arith
+few_reports (heard.Good g) = omega (arith, length_listed (option_map settlement_report g.settlement))
+few_reports (heard.Bad b) =
+    let own = Bad (bad_report b) ∷ [] in
+    let lost = lost_reports b.lost in
+    omega (arith, length_listed (option_map settlement_report b.settlement), length_listed (then_some b.lost Lost), length-append (settlement_reports b.settlement) (own ++ lost), length-append own lost)

@@ -1,14 +1,10 @@
 -- Some elements pushed, one after the other.
-use Rattle.std.proofs.Common.{◌≡◌, ℕ, ◌+◌, ◌<◌, eqb, List, [], ◌∷◌, ◌++◌, length, set, Ok, Err, Result, sym, refl, ap, ◌∙◌, append_assoc, append-nil, arith, length-append}
-use Rattle.std.proofs.lemmas.Bool.{cond-false, ne_eqb}
-use Rattle.code.specs.Refusals.{plain, numbered}
-use Rattle.link.proofs.Hearings.{ok_not_err}
+use Rattle.std.proofs.Common.{◌≡◌, ℕ, zero, suc, ◌+◌, ◌-◌, ◌≤◌, List, [], ◌∷◌, ◌++◌, length, set, sym, refl, ap, ◌∙◌, subst, take, append_assoc, append-nil, arith, length-append}
+use Rattle.std.proofs.lemmas.Grind.{common_steps}
 use Rattle.std.proofs.lemmas.List.{length-set}
 use Rattle.reports.specs.declared.queue.Queue.{Queue}
-use Rattle.reports.specs.declared.queue.QueueRefusal.{QueueRefusal}
-use Rattle.reports.specs.declared.queue.QueueRefusal.TheVariants.{Full}
 use Rattle.line.specs.Cyclic.{wrap}
-use Rattle.reports.specs.Queues.{memory_of, count_of, elements, room_of, start, free_place, written, Kept, Appended, Pushed, pushing, queue_refusal}
+use Rattle.reports.specs.Queues.{memory_of, count_of, elements, room_of, start, free_place, written, Kept, Filled, Appended}
 
 module _ {T : Type 0} where
   pub written-append : (first count : ℕ) (xs ys memory : List T) → written first count (xs ++ ys) memory ≡ written first (count + length xs) ys (written first count xs memory)
@@ -32,13 +28,6 @@ module _ {T : Type 0} where
         first = p.first;
       }
 
-  -- where there is room, pushing is accepted
-  pub kept_pushed : (q q' : Queue T) (x : T) (r : Result Unit (QueueRefusal T)) → 0 < room_of q → numbered queue_refusal r ≡ pushing q x → Pushed q x r q'
-      → Kept q (x ∷ []) q'
-  kept_pushed q q' x (Ok u) h a p = kept_one q q' x p
-  kept_pushed q q' x (Err (Full y)) h a p =
-      absurd (ok_not_err tt (plain 21) (sym (a ∙ cond-false (eqb (room_of q) 0) (Err (plain 21)) (Ok tt) (ne_eqb (room_of q) 0 (omega arith)))))
-
   pub kept_then : (a b c : Queue T) (xs ys : List T) → Kept a xs b → Kept b ys c → Kept a (xs ++ ys) c
   kept_then a b c xs ys p q =
       let n = length-append xs ys in
@@ -54,6 +43,25 @@ module _ {T : Type 0} where
             ∙ sym (written-append (start a) (count_of a) xs ys (memory_of a)))));
         first = q.first ∙ p.first;
       }
+
+  -- what is left of the places takes what follows
+  take_both : (n m : ℕ) (xs ys : List T) → m ≡ n - length (take n xs) → take n (xs ++ ys) ≡ take n xs ++ take m ys
+  take_both n m [] ys e = grind (arith, common_steps)
+  take_both zero m (x ∷ xs) ys e = grind (arith, common_steps)
+  take_both (suc n) m (x ∷ xs) ys e = ap (λ (zs : List T). x ∷ zs) (take_both n m xs ys (omega arith))
+
+  pub filled_then : (a b c : Queue T) (xs ys : List T) → Filled a xs b → Filled b ys c → Filled a (xs ++ ys) c
+  filled_then a b c xs ys p q =
+      subst (λ (zs : List T). Kept a zs c) (sym (take_both (room_of a) (room_of b) xs ys p.room)) (kept_then a b c (take (room_of a) xs) (take (room_of b) ys) p q)
+
+  take_all : (n : ℕ) (xs : List T) → length xs ≤ n → take n xs ≡ xs
+  take_all n [] h = grind (arith, common_steps)
+  take_all zero (x ∷ xs) h = absurd (omega arith)
+  take_all (suc n) (x ∷ xs) h = ap (λ (ys : List T). x ∷ ys) (take_all n xs (omega arith))
+
+  -- where there is room for all, all are pushed
+  pub filled_whole : (q q' : Queue T) (xs : List T) → length xs ≤ room_of q → Filled q xs q' → Kept q xs q'
+  filled_whole q q' xs h p = subst (λ (ys : List T). Kept q ys q') (take_all (room_of q) xs h) p
 
   -- pushing leaves as many places as there were
   length_written : (first count : ℕ) (xs memory : List T) → length (written first count xs memory) ≡ length memory

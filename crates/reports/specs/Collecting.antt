@@ -1,7 +1,8 @@
 -- Collecting: what the bits of a tap put into two queues, and why it stops.
-use Rattle.std.specs.Prelude.{◌≡◌, ℕ, ◌+◌, ◌-◌, Bool, cond, Some, None, Option, List, [], ◌∷◌, ◌++◌, length, ◌==◌, nat_lt}
+use Rattle.std.specs.Prelude.{◌≡◌, ℕ, ◌+◌, ◌-◌, Bool, cond, Option, List, [], ◌∷◌, ◌++◌, length, ◌==◌, nat_lt}
+use Rattle.std.specs.Bool.{then_some}
+use Rattle.std.specs.Option.{option_map, option_to_list}
 use Rattle.link.specs.declared.heard.Settlement.{Settlement}
-use Rattle.link.specs.declared.heard.Settlement.TheVariants as settlement
 use Rattle.link.specs.declared.heard.BadDword.{BadDword}
 use Rattle.link.specs.declared.heard.Heard.{Heard}
 use Rattle.link.specs.declared.heard.Heard.TheVariants as heard
@@ -13,10 +14,11 @@ use Rattle.link.specs.Receiving.{most_numbers}
 use Rattle.reports.specs.declared.queue.Queue.{Queue}
 use Rattle.reports.specs.declared.record.DwordRecord.{DwordRecord}
 use Rattle.reports.specs.declared.report.Report.{Report}
-use Rattle.reports.specs.declared.report.Report.TheVariants.{Gained, Slip, Vouched, Doubtful, Bad, Lost}
+use Rattle.reports.specs.declared.report.Report.TheVariants.{Gained, Slip, Bad, Lost}
 use Rattle.reports.specs.declared.collecting.Stop.{Stop}
 use Rattle.reports.specs.declared.collecting.Stop.TheVariants.{Dry, Spent, DwordsFull, ReportsFull, Declined}
 use Rattle.reports.specs.Queues.{Kept}
+use Rattle.reports.specs.Shown.{dword_record, bad_report, settlement_report}
 
 -- The dword that an answer hands out.
 abbrev pub dwords_of : Heard → List DwordRecord
@@ -24,19 +26,17 @@ dwords_of heard.Dry = []
 dwords_of More = []
 dwords_of heard.Slip = []
 dwords_of heard.Gained = []
-dwords_of (Good g) = record { number = g.number; dword = g.dword } ∷ []
+dwords_of (Good g) = dword_record g ∷ []
 dwords_of (heard.Bad b) = []
 
 abbrev pub settlement_reports : Option Settlement → List Report
-settlement_reports None = []
-settlement_reports (Some (settlement.Vouched span)) = Vouched span ∷ []
-settlement_reports (Some (settlement.Doubtful span)) = Doubtful span ∷ []
+settlement_reports settlement = option_to_list (option_map settlement_report settlement)
 
 abbrev pub lost_reports : Bool → List Report
-lost_reports lost = cond lost (Lost ∷ []) []
+lost_reports lost = option_to_list (then_some lost Lost)
 
 abbrev pub bad_reports : BadDword → List Report
-bad_reports b = settlement_reports b.settlement ++ ((Bad (record { number = b.number; mask = b.mask }) ∷ []) ++ lost_reports b.lost)
+bad_reports b = settlement_reports b.settlement ++ ((Bad (bad_report b) ∷ []) ++ lost_reports b.lost)
 
 -- The reports of an answer, three at most.
 abbrev pub reports_of : Heard → List Report

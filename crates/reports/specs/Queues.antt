@@ -1,5 +1,5 @@
 -- Queues over borrowed memory: the elements that wait, and what pushing and popping do to them and to the memory.
-use Rattle.std.specs.Prelude.{◌≡◌, ℕ, ◌+◌, ◌-◌, ◌%◌, min, cond, List, [], ◌∷◌, ◌++◌, length, Some, None, Ok, Err, Option, Result, ◌==◌, slice_set}
+use Rattle.std.specs.Prelude.{◌≡◌, ℕ, ◌+◌, ◌-◌, cond, List, [], ◌∷◌, ◌++◌, length, take, Some, None, Ok, Err, Option, Result, ◌==◌, slice_set}
 use Rattle.code.specs.Refusals.{Refusal, plain}
 use Rattle.reports.specs.declared.queue.Queue.{Queue}
 use Rattle.reports.specs.declared.queue.QueueRefusal.{QueueRefusal}
@@ -16,11 +16,11 @@ module _ {T : Type 0} where
 
   -- The place of memory that the first element has.
   abbrev pub start : Queue T → ℕ
-  start q = q.front % length (memory_of q)
+  start q = q.ring.front
 
   -- How many elements wait.
   abbrev pub count_of : Queue T → ℕ
-  count_of q = min q.count (length (memory_of q))
+  count_of q = q.ring.count
 
   -- The elements that wait, the next to be popped first.
   abbrev pub elements : Queue T → List T
@@ -67,3 +67,7 @@ module _ {T : Type 0} where
     pub room : room_of after ≡ room_of before - length xs
     pub memory : memory_of after ≡ written (start before) (count_of before) xs (memory_of before)
     pub first : start after ≡ start before
+
+  -- The same, of as many of the elements as there was room for.
+  abbrev pub Filled : Queue T → List T → Queue T → Type 0
+  Filled before xs after = Kept before (take (room_of before) xs) after

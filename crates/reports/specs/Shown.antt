@@ -9,8 +9,20 @@ use Rattle.link.specs.declared.heard.Heard.{Heard}
 use Rattle.link.specs.declared.heard.Heard.TheVariants as heard
 use Rattle.link.specs.declared.heard.Heard.TheVariants.{Dry, More, Good}
 use Rattle.reports.specs.declared.record.DwordRecord.{DwordRecord}
+use Rattle.reports.specs.declared.report.BadReport.{BadReport}
 use Rattle.reports.specs.declared.report.Report.{Report}
 use Rattle.reports.specs.declared.report.Report.TheVariants.{Gained, Slip, Vouched, Doubtful, Bad, Lost}
+
+-- What is recorded of a good dword, and reported of a bad one and of a settlement.
+abbrev pub dword_record : GoodDword → DwordRecord
+dword_record good = record { number = good.number; dword = good.dword }
+
+abbrev pub bad_report : BadDword → BadReport
+bad_report bad = record { number = bad.number; mask = bad.mask }
+
+abbrev pub settlement_report : Settlement → Report
+settlement_report (settlement.Vouched span) = Vouched span
+settlement_report (settlement.Doubtful span) = Doubtful span
 
 -- A byte as two hexadecimal digits, in capitals.
 abbrev pub hex_pair : ℕ → List ℕ
@@ -41,17 +53,16 @@ line text = text ++ 10 ∷ []
 -- The lines of an answer: a span before its dword or bad line, a lost sync after it.
 abbrev pub settlement_lines : Option Settlement → List ℕ
 settlement_lines None = []
-settlement_lines (Some (settlement.Vouched span)) = line (report_text (Vouched span))
-settlement_lines (Some (settlement.Doubtful span)) = line (report_text (Doubtful span))
+settlement_lines (Some settlement) = line (report_text (settlement_report settlement))
 
 abbrev pub good_lines : GoodDword → List ℕ
-good_lines g = settlement_lines g.settlement ++ line (dword_text (record { number = g.number; dword = g.dword }))
+good_lines g = settlement_lines g.settlement ++ line (dword_text (dword_record g))
 
 abbrev pub lost_lines : Bool → List ℕ
 lost_lines lost = cond lost (line (report_text Lost)) []
 
 abbrev pub bad_lines : BadDword → List ℕ
-bad_lines b = settlement_lines b.settlement ++ (line (report_text (Bad (record { number = b.number; mask = b.mask }))) ++ lost_lines b.lost)
+bad_lines b = settlement_lines b.settlement ++ (line (report_text (Bad (bad_report b))) ++ lost_lines b.lost)
 
 abbrev pub heard_lines : Heard → List ℕ
 heard_lines Dry = []

@@ -1,19 +1,20 @@
 // Collecting: many hearings into two queues.
-ghost use Rattle.std.specs.Prelude.{◌≡◌, ◌+◌, ◌<◌, ◌≤◌, [], ◌∷◌, length, if◌then◌else◌, nat_eq};
-ghost use Rattle.reports.specs.Queues.{Kept, room_of};
-ghost use Rattle.reports.specs.Collecting.{dwords_of, settlement_reports, lost_reports, bad_reports, reports_of, Collects, collected};
+ghost use Rattle.std.specs.Prelude.{◌≡◌, ◌+◌, length, if◌then◌else◌, nat_eq};
+ghost use Rattle.std.specs.Option.{option_to_list};
+ghost use Rattle.reports.specs.Queues.{Filled, room_of};
+ghost use Rattle.reports.specs.Collecting.{dwords_of, bad_reports, reports_of, Collects, collected};
 
 use crate::queue::Queue;
 use crate::record::DwordRecord;
-use crate::report::{BadReport, Report};
+use crate::report::Report;
 use line::tap::Tap;
-use link::heard::{BadDword, Heard, Settlement};
+use link::heard::{BadDword, Heard};
 use link::receiver::Receiver;
 use link::receiver::hearing::HearRefusal;
 
 // Why collecting stopped: no bit waits, the number of bits is spent, the dword queue is full, fewer than three places
 // are left for reports, or a hearing was declined.
-#[derive(Clone, Copy)]
+#[derive(Clone, Copy, PartialEq, Eq, Debug)]
 pub enum Stop {
     Dry,
     Spent,
@@ -23,83 +24,48 @@ pub enum Stop {
 }
 
 // How many bits were taken, and why no more.
-#[derive(Clone, Copy)]
+#[derive(Clone, Copy, PartialEq, Eq, Debug)]
 pub struct Collected {
     pub bits: usize,
     pub stop: Stop,
 }
 
-// Pushes what there is room for.
-fn push_sure<T: Copy>(queue: &mut Queue<'_, T>, element: T)
-    requires { 0 < room_of queue.old }
-    ensures { Kept queue.old (element ∷ []) queue.new }
+// Pushes an element, if there is one and room for it.
+fn keep<T: Copy>(queue: &mut Queue<'_, T>, element: Option<T>)
+    ensures { Filled queue.old (option_to_list element) queue.new }
 {
-    let _ = queue.push(element);
-}
-
-fn keep_settlement(reports: &mut Queue<'_, Report>, settlement: Option<Settlement>)
-    requires { 0 < room_of reports.old }
-    ensures { Kept reports.old (settlement_reports settlement) reports.new }
-{
-    match settlement {
-        None => {}
-        Some(Settlement::Vouched(span)) => push_sure(reports, Report::Vouched(span)),
-        Some(Settlement::Doubtful(span)) => push_sure(reports, Report::Doubtful(span)),
+    if let Some(element) = element {
+        let _ = queue.push(element);
     }
-}
-
-fn keep_lost(reports: &mut Queue<'_, Report>, lost: bool)
-    requires { 0 < room_of reports.old }
-    ensures { Kept reports.old (lost_reports lost) reports.new }
-{
-    if lost {
-        push_sure(reports, Report::Lost);
-    }
-}
-
-fn keep_bad(reports: &mut Queue<'_, Report>, bad: BadDword)
-    requires { 3 ≤ room_of reports.old }
-    ensures { Kept reports.old (bad_reports bad) reports.new }
-{
-    keep_settlement(reports, bad.settlement);
-    push_sure(
-        reports,
-        Report::Bad(BadReport {
-            number: bad.number,
-            mask: bad.mask,
-        }),
-    );
-    keep_lost(reports, bad.lost);
 }
 
 // The reports of an answer.
 fn keep_reports(reports: &mut Queue<'_, Report>, heard: Heard)
-    requires { 3 ≤ room_of reports.old }
-    ensures { Kept reports.old (reports_of heard) reports.new }
+    ensures { Filled reports.old (reports_of heard) reports.new }
 {
     match heard {
-        Heard::Dry => {}
-        Heard::More => {}
-        Heard::Slip => push_sure(reports, Report::Slip),
-        Heard::Gained => push_sure(reports, Report::Gained),
-        Heard::Good(good) => keep_settlement(reports, good.settlement),
+        Heard::Dry | Heard::More => {}
+        Heard::Slip => keep(reports, Some(Report::Slip)),
+        Heard::Gained => keep(reports, Some(Report::Gained)),
+        Heard::Good(good) => keep(reports, good.settlement.map(Report::from)),
         Heard::Bad(bad) => keep_bad(reports, bad),
     }
 }
 
+fn keep_bad(reports: &mut Queue<'_, Report>, bad: BadDword)
+    ensures { Filled reports.old (bad_reports bad) reports.new }
+{
+    keep(reports, bad.settlement.map(Report::from));
+    keep(reports, Some(Report::Bad(bad.into())));
+    keep(reports, bad.lost.then_some(Report::Lost));
+}
+
 // The dword of an answer.
 fn keep_dword(dwords: &mut Queue<'_, DwordRecord>, heard: Heard)
-    requires { 0 < room_of dwords.old }
-    ensures { Kept dwords.old (dwords_of heard) dwords.new }
+    ensures { Filled dwords.old (dwords_of heard) dwords.new }
 {
     if let Heard::Good(good) = heard {
-        push_sure(
-            dwords,
-            DwordRecord {
-                number: good.number,
-                dword: good.dword,
-            },
-        );
+        keep(dwords, Some(good.into()));
     }
 }
 
@@ -134,7 +100,7 @@ pub fn collect<T: Tap>(
         }
         match receiver.hear(tap) {
             Ok(heard) => {
-                if let Heard::Dry = heard {
+                if heard == Heard::Dry {
                     return stop_at(tap, bits, Stop::Dry);
                 }
                 keep_dword(dwords, heard);

@@ -1,18 +1,18 @@
 // What a receiver tells besides the dwords that it hands out, and how it is printed.
-ghost use Rattle.std.specs.Prelude.{Some};
-ghost use Rattle.reports.specs.Shown.{report_text, end_text};
+ghost use Rattle.std.specs.Prelude.{◌≡◌, Some};
+ghost use Rattle.reports.specs.Shown.{settlement_report, bad_report, report_text, end_text};
 
-use link::heard::Span;
+use link::heard::{BadDword, Settlement, Span};
 use std::fmt;
 
 // A bad dword; the mask adds 1, 2, 4 and 8 for the refused characters at places 0 to 3.
-#[derive(Clone, Copy)]
+#[derive(Clone, Copy, PartialEq, Eq, Debug)]
 pub struct BadReport {
     pub number: u32,
     pub mask: u8,
 }
 
-#[derive(Clone, Copy)]
+#[derive(Clone, Copy, PartialEq, Eq, Debug)]
 pub enum Report {
     Gained,
     Slip,
@@ -23,9 +23,31 @@ pub enum Report {
 }
 
 // The end of a tap, after so many bits.
-#[derive(Clone, Copy)]
+#[derive(Clone, Copy, PartialEq, Eq, Debug)]
 pub struct EndOfTap {
     pub bits: usize,
+}
+
+impl From<BadDword> for BadReport {
+    ghost from_gives = { λ bad report. report ≡ bad_report bad };
+
+    fn from(bad: BadDword) -> BadReport {
+        BadReport {
+            number: bad.number,
+            mask: bad.mask,
+        }
+    }
+}
+
+impl From<Settlement> for Report {
+    ghost from_gives = { λ settlement report. report ≡ settlement_report settlement };
+
+    fn from(settlement: Settlement) -> Report {
+        match settlement {
+            Settlement::Vouched(span) => Report::Vouched(span),
+            Settlement::Doubtful(span) => Report::Doubtful(span),
+        }
+    }
 }
 
 impl fmt::Display for Report {

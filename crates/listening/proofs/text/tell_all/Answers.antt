@@ -1,33 +1,31 @@
 use Rattle.std.proofs.Common.{◌≡◌, ℕ, List, [], ◌++◌, length, string_bytes, sym, ap, ◌∙◌, append-nil, arith, lit<}
 use Rattle.reports.proofs.Keeping.{kept-size}
-use Rattle.listening.specs.Listening.{told, taken}
-use Rattle.listening.proofs.Tellings.{told_none}
 use Rattle.listening.proofs.Turns.{Turn, turn}
 use Rattle.listening.proofs.text.tell_all.Given as given
 use Rattle.listening.proofs.text.tell_all.Goals as goal
-use Rattle.listening.proofs.text.tell_all.Goals.{In_ok-tell_dwords}
+use Rattle.listening.proofs.text.tell_all.Goals.{In_ok-tell_lines-2}
 
 -- each turn is one of the argument's turns
-one_turn : (g : given.Over) (c : In_ok-tell_dwords g)
+one_turn : (g : given.Over) (c : In_ok-tell_lines-2 g)
     → Turn c.hearing.receiver.state c.collect-collected.new.receiver.state
     (g.T.Tap.meaning c.hearing.tap).waiting (g.T.Tap.meaning c.collect-collected.new.tap).waiting
     c.collect-collected.result.bits c.collect-collected.result.stop
-    (string_bytes c.hearing.text) (string_bytes c.tell_dwords.new.text)
+    (string_bytes c.hearing.text) (string_bytes c.tell_lines-in-hearing.new.text)
 one_turn g c =
     let l = c.hearing in
     let r = c.collect-collected in
     turn l.receiver.state r.new.receiver.state (g.T.Tap.meaning l.tap).waiting (g.T.Tap.meaning r.new.tap).waiting
-    18446744073709551615 r.result.bits r.result.stop (string_bytes l.text) (string_bytes c.tell_reports.new.text) (string_bytes c.tell_dwords.new.text)
+    18446744073709551615 r.result.bits r.result.stop (string_bytes l.text) (string_bytes c.tell_lines.new.text) (string_bytes c.tell_lines-in-hearing.new.text)
     l.dwords r.new.dwords l.reports r.new.reports l.invariant.3.0 l.invariant.3.1 l.invariant.4.0 l.invariant.4.1
-    (lit< tt) r.ensures.collects r.ensures.gone c.in_ok-tell_reports.ensures.text c.in_ok-tell_dwords.ensures.text
+    (lit< tt) r.ensures.collects r.ensures.gone c.in_ok-tell_lines.ensures.text c.in_ok-tell_lines-2.ensures.text
 
 pub hearing-preserved : goal.hearing-preserved
 hearing-preserved g c =
-    let t = one_turn g (goal.at.hearing-preserved g c).In_ok-tell_dwords in
+    let t = one_turn g (goal.at.hearing-preserved g c).In_ok-tell_lines-2 in
     let l = c.hearing in
     let r = c.collect-collected in
-    let told-dwords = c.in_ok-tell_dwords.ensures in
-    let told-reports = c.in_ok-tell_reports.ensures in (
+    let told-dwords = c.in_ok-tell_lines-2.ensures in
+    let told-reports = c.in_ok-tell_lines.ensures in (
       omega (arith, t.count, l.invariant.0),
       t.lines ∙ l.invariant.1,
       omega (arith, t.shorter, l.invariant.2),
@@ -41,35 +39,19 @@ ended text text' lines e n = sym (append-nil text') ∙ (sym (ap (λ (x : List �
 
 pub overflow_sub-result : goal.overflow_sub-result
 overflow_sub-result g c =
-    let t = one_turn g (goal.at.overflow_sub-result g c).In_ok-tell_dwords in
+    let t = one_turn g (goal.at.overflow_sub-result g c).In_ok-tell_lines-2 in
     omega (arith, t.shorter, c.hearing.invariant.2, c.count.ensures, c.count-before.ensures)
 
 pub returns-in-Dry : goal.returns-in-Dry
 returns-in-Dry g c =
-    let t = one_turn g (goal.at.returns-in-Dry g c).In_ok-tell_dwords in
-    let s = c.collect-collected.new.receiver.state in
+    let t = one_turn g (goal.at.returns-in-Dry g c).In_ok-tell_lines-2 in
     let none = t.over c.in-Dry.is in
     record {
-      text = ended _ _ _ (t.lines ∙ c.hearing.invariant.1) (ap (told s) none);
-      taken = omega (arith, t.count, c.hearing.invariant.0, ap (taken s) none, ap length none, c.count.ensures, c.count-before.ensures);
-    }
-
-pub overflow_sub-result-in-Declined : goal.overflow_sub-result-in-Declined
-overflow_sub-result-in-Declined g c =
-    let t = one_turn g (goal.at.overflow_sub-result-in-Declined g c).In_ok-tell_dwords in
-    omega (arith, t.shorter, c.hearing.invariant.2, c.count-in-Declined.ensures, c.count-before.ensures)
-
-pub returns-in-Declined : goal.returns-in-Declined
-returns-in-Declined g c =
-    let t = one_turn g (goal.at.returns-in-Declined g c).In_ok-tell_dwords in
-    let r = c.collect-collected in
-    let none = told_none r.new.receiver.state (g.T.Tap.meaning r.new.tap).waiting (t.spent _ c.in-Declined.is) in
-    record {
       text = ended _ _ _ (t.lines ∙ c.hearing.invariant.1) none.0;
-      taken = omega (arith, t.count, c.hearing.invariant.0, none.1, t.shorter, c.hearing.invariant.2, c.count-in-Declined.ensures, c.count-before.ensures);
+      taken = omega (arith, t.count, c.hearing.invariant.0, none.1, t.shorter, c.hearing.invariant.2, c.count.ensures, c.count-before.ensures);
     }
 
 pub hearing-smaller : goal.hearing-smaller
 hearing-smaller g c =
-    let t = one_turn g (goal.at.hearing-smaller g c).In_ok-tell_dwords in
+    let t = one_turn g (goal.at.hearing-smaller g c).In_ok-tell_lines-2 in
     omega (arith, t.shorter, t.more c.in_default.not-Dry c.in_default.not-Declined)

@@ -1,61 +1,34 @@
-use Rattle.std.proofs.Common.{◌≡◌, ◌+◌, ◌-◌, ◌<◌, cond, eqb, length, Ok, sym, ap, ◌∙◌, ap₂, arith}
+use Rattle.std.proofs.Common.{rules, ◌≡◌, ◌+◌, ◌-◌, length, Ok, sym, refl, ap, ◌∙◌, arith}
 use Rattle.line.specs.Waiting.{Meaning}
-use Rattle.link.specs.declared.state.State.{State}
+use Rattle.link.specs.declared.heard.Heard.TheVariants as heard
 use Rattle.link.specs.Receiving.{Outcome, hear_refusal}
 use Rattle.link.proofs.Hearings.{took, found_none, spent_at, spent_leaves}
 use Rattle.reports.specs.declared.collecting.Stop.TheVariants.{Dry, Spent, DwordsFull, ReportsFull, Declined}
 use Rattle.reports.specs.Queues.{room_of}
-use Rattle.reports.specs.Collecting.{stopped}
-use Rattle.reports.proofs.Collectings.{or_dry, at_most, dwords_full, reports_full, declined, one_more, completes_more, completes_last}
+use Rattle.reports.specs.Collecting.{dwords_of, reports_of}
+use Rattle.reports.proofs.Keeping.{filled_whole}
+use Rattle.reports.proofs.Collectings.{at_most, dwords_full, reports_full, declined, one_more, completes_more, stops_here, few_dwords, few_reports}
 use Rattle.reports.proofs.collecting.collect.Goals as goal
 
-pub returns-then-room-eq0 : goal.returns-then-room-eq0
-returns-then-room-eq0 g c =
+pub returns-then-room-eq0-clause-collects : goal.returns-then-room-eq0-clause-collects
+returns-then-room-eq0-clause-collects g c =
     let l = c.loop-bits in
+    let r = c.stop_at in
     let most = c.args.most - l.bits in
     let s = l.receiver.state in
-    let bits = (g.T.Tap.meaning l.tap).waiting in
-    let full : 0 < length bits → _ = λ some. dwords_full most (room_of l.dwords) (room_of l.reports) s bits some (omega arith) (omega arith) in
-    let e = or_dry most (room_of l.dwords) (room_of l.reports) s DwordsFull bits full in
-    record {
-      collects = completes_last _ _ l.bits c.stop_at.result.bits c.args.dwords.now l.dwords c.args.reports.now l.reports _ c.stop_at.result.stop s bits l.invariant.2 e c.stop_at.ensures.bits c.stop_at.ensures.stop;
-      gone = omega (arith, c.stop_at.ensures.bits, l.invariant.0);
-      capacity = l.invariant.1;
-    }
+    let tap = g.T.Tap.meaning l.tap in
+    stops_here most (room_of l.dwords) (room_of l.reports) _ l.bits r.result.bits c.args.dwords.now l.dwords c.args.reports.now l.reports DwordsFull r.result.stop s s tap tap l.invariant.2
+    (λ some. dwords_full most (room_of l.dwords) (room_of l.reports) s tap.waiting some (omega arith) (omega arith)) refl refl r.ensures.bits r.ensures.stop
 
-pub returns-then-room-lt-LEAST_PLACES : goal.returns-then-room-lt-LEAST_PLACES
-returns-then-room-lt-LEAST_PLACES g c =
+pub returns-then-room-lt-LEAST_PLACES-clause-collects : goal.returns-then-room-lt-LEAST_PLACES-clause-collects
+returns-then-room-lt-LEAST_PLACES-clause-collects g c =
     let l = c.loop-bits in
     let r = c.stop_at-then-room-lt-LEAST_PLACES in
     let most = c.args.most - l.bits in
     let s = l.receiver.state in
-    let bits = (g.T.Tap.meaning l.tap).waiting in
-    let full : 0 < length bits → _ = λ some. reports_full most (room_of l.dwords) (room_of l.reports) s bits some (omega arith) (omega arith) (omega arith) in
-    let e = or_dry most (room_of l.dwords) (room_of l.reports) s ReportsFull bits full in
-    record {
-      collects = completes_last _ _ l.bits r.result.bits c.args.dwords.now l.dwords c.args.reports.now l.reports _ r.result.stop s bits l.invariant.2 e r.ensures.bits r.ensures.stop;
-      gone = omega (arith, r.ensures.bits, l.invariant.0);
-      capacity = l.invariant.1;
-    }
-
-pub returns-in-Dry : goal.returns-in-Dry
-returns-in-Dry g c =
-    let l = c.loop-bits in
-    let r = c.stop_at-in-Dry in
-    let s = l.receiver.state in
     let tap = g.T.Tap.meaning l.tap in
-    let next = c.hear.new.self.state in
-    let rest = g.T.Tap.meaning c.hear.new.tap in
-    let told = c.in-Ok.ensures in
-    let f = found_none s tap next rest (ap Ok (sym c.in-Dry.is) ∙ told.answer) told.state told.tap in
-    let none : length tap.waiting ≡ 0 = ap length f.none in
-    let e = or_dry (c.args.most - l.bits) (room_of l.dwords) (room_of l.reports) s Dry tap.waiting (λ some. absurd (omega arith)) in
-    let same = ap₂ (λ (x : State) (m : Meaning). stopped (cond (eqb (length m.waiting) 0) Dry Dry) x m.waiting) (sym f.state) (sym f.left) in
-    record {
-      collects = completes_last _ _ l.bits r.result.bits c.args.dwords.now l.dwords c.args.reports.now l.reports _ r.result.stop next rest.waiting l.invariant.2 (e ∙ same) r.ensures.bits r.ensures.stop;
-      gone = omega (arith, r.ensures.bits, l.invariant.0, ap (λ (m : Meaning). length m.waiting) f.left);
-      capacity = ap (λ (m : Meaning). m.capacity) f.left ∙ l.invariant.1;
-    }
+    stops_here most (room_of l.dwords) (room_of l.reports) _ l.bits r.result.bits c.args.dwords.now l.dwords c.args.reports.now l.reports ReportsFull r.result.stop s s tap tap l.invariant.2
+    (λ some. reports_full most (room_of l.dwords) (room_of l.reports) s tap.waiting some (omega arith) (omega arith) (omega arith)) refl refl r.ensures.bits r.ensures.stop
 
 pub returns-in-Err : goal.returns-in-Err
 returns-in-Err g c =
@@ -64,19 +37,17 @@ returns-in-Err g c =
     let most = c.args.most - l.bits in
     let s = l.receiver.state in
     let tap = g.T.Tap.meaning l.tap in
-    let next = c.hear.new.self.state in
-    let rest = g.T.Tap.meaning c.hear.new.tap in
     let told = c.in-Err.ensures in
     let refusal = c.in-Err.refusal in
     let n = spent_at s tap (hear_refusal refusal) told.answer in
     let left = spent_leaves s tap n in
-    let state-is : next ≡ s = told.state ∙ ap (λ (o : Outcome). o.state) left in
-    let tap-is : rest ≡ tap = told.tap ∙ ap (λ (o : Outcome). o.tap) left in
-    let spent : 0 < length tap.waiting → _ = λ some. declined most (room_of l.dwords) (room_of l.reports) s refusal tap.waiting some (omega arith) (omega arith) (omega arith) n in
-    let e = or_dry most (room_of l.dwords) (room_of l.reports) s (Declined refusal) tap.waiting spent in
-    let same = ap₂ (λ (x : State) (m : Meaning). stopped (cond (eqb (length m.waiting) 0) Dry (Declined refusal)) x m.waiting) (sym state-is) (sym tap-is) in
+    let tap-is : g.T.Tap.meaning c.hear.new.tap ≡ tap = told.tap ∙ ap (λ (o : Outcome). o.tap) left in
     record {
-      collects = completes_last _ _ l.bits r.result.bits c.args.dwords.now l.dwords c.args.reports.now l.reports _ r.result.stop next rest.waiting l.invariant.2 (e ∙ same) r.ensures.bits r.ensures.stop;
+      collects =
+          stops_here most (room_of l.dwords) (room_of l.reports) _ l.bits r.result.bits c.args.dwords.now l.dwords c.args.reports.now l.reports (Declined refusal) r.result.stop
+          s c.hear.new.self.state tap (g.T.Tap.meaning c.hear.new.tap) l.invariant.2
+          (λ some. declined most (room_of l.dwords) (room_of l.reports) s refusal tap.waiting some (omega arith) (omega arith) (omega arith) n)
+          (told.state ∙ ap (λ (o : Outcome). o.state) left) tap-is r.ensures.bits r.ensures.stop;
       gone = omega (arith, r.ensures.bits, l.invariant.0, ap (λ (m : Meaning). length m.waiting) tap-is);
       capacity = ap (λ (m : Meaning). m.capacity) tap-is ∙ l.invariant.1;
     }
@@ -89,27 +60,44 @@ loop-bits-preserved g c =
     let next = c.hear.new.self.state in
     let heard = c.in-Ok.heard in
     let told = c.in-Ok.ensures in
-    let t = took l.receiver.state tap heard next rest c.in_default.not-Dry told.answer told.state told.tap in
+    let t = took l.receiver.state tap heard next rest (λ e. let h = rw e at c.if-eq.ensures in cc) told.answer told.state told.tap in
     let d₁ = c.keep_dword.new.dwords in
     let p₁ = c.keep_reports.new.reports in
-    let e = one_more (c.args.most - l.bits) (room_of l.dwords) (room_of l.reports) l.receiver.state tap heard next rest (c.args.most - (l.bits + 1)) (room_of d₁) (room_of p₁) t (omega arith) (omega arith) (omega arith) (omega arith) c.keep_dword.ensures.room c.keep_reports.ensures.room in (
+    let kd = filled_whole l.dwords d₁ (dwords_of heard) (omega (arith, few_dwords heard)) c.keep_dword.ensures in
+    let kp = filled_whole l.reports p₁ (reports_of heard) (omega (arith, few_reports heard)) c.keep_reports.ensures in
+    let e = one_more (c.args.most - l.bits) (room_of l.dwords) (room_of l.reports) l.receiver.state tap heard next rest (c.args.most - (l.bits + 1)) (room_of d₁) (room_of p₁) t (omega arith) (omega arith) (omega arith) (omega arith) kd.room kp.room in (
       omega (arith, l.invariant.0, ap (λ (m : Meaning). length m.waiting) t.tap_was),
       sym (ap (λ (m : Meaning). m.capacity) t.tap_was) ∙ l.invariant.1,
-      completes_more _ _ _ l.bits c.args.dwords.now l.dwords d₁ c.args.reports.now l.reports p₁ heard l.invariant.2 e c.keep_dword.ensures c.keep_reports.ensures,
+      completes_more _ _ _ l.bits c.args.dwords.now l.dwords d₁ c.args.reports.now l.reports p₁ heard l.invariant.2 e kd kp,
     )
 
-pub returns : goal.returns
-returns g c =
+pub returns-clause-collects : goal.returns-clause-collects
+returns-clause-collects g c =
     let l = c.loop-bits in
     let r = c.stop_at-2 in
     let most = c.args.most - l.bits in
     let s = l.receiver.state in
-    let bits = (g.T.Tap.meaning l.tap).waiting in
-    let spent : 0 < length bits → _ = λ some. at_most most (room_of l.dwords) (room_of l.reports) s bits some (omega arith) in
-    let e = or_dry most (room_of l.dwords) (room_of l.reports) s Spent bits spent in
+    let tap = g.T.Tap.meaning l.tap in
     let all : r.result.bits ≡ l.bits = omega (arith, r.ensures.bits) in
+    stops_here most (room_of l.dwords) (room_of l.reports) _ l.bits r.result.bits c.args.dwords.now l.dwords c.args.reports.now l.reports Spent r.result.stop s s tap tap l.invariant.2
+    (λ some. at_most most (room_of l.dwords) (room_of l.reports) s tap.waiting some (omega arith)) refl refl all r.ensures.stop
+
+pub returns-then-eq : goal.returns-then-eq
+returns-then-eq g c =
+    let l = c.loop-bits in
+    let r = c.stop_at-then-eq in
+    let s = l.receiver.state in
+    let tap = g.T.Tap.meaning l.tap in
+    let next = c.hear.new.self.state in
+    let rest = g.T.Tap.meaning c.hear.new.tap in
+    let told = c.in-Ok.ensures in
+    let dry : c.in-Ok.heard ≡ heard.Dry = search rules in
+    let f = found_none s tap next rest (ap Ok (sym dry) ∙ told.answer) told.state told.tap in
+    let none : length tap.waiting ≡ 0 = ap length f.none in
     record {
-      collects = completes_last _ _ l.bits r.result.bits c.args.dwords.now l.dwords c.args.reports.now l.reports _ r.result.stop s bits l.invariant.2 e all r.ensures.stop;
-      gone = omega (arith, all, l.invariant.0);
-      capacity = l.invariant.1;
+      collects =
+          stops_here (c.args.most - l.bits) (room_of l.dwords) (room_of l.reports) _ l.bits r.result.bits c.args.dwords.now l.dwords c.args.reports.now l.reports Dry r.result.stop
+          s next tap rest l.invariant.2 (λ some. absurd (omega arith)) f.state f.left r.ensures.bits r.ensures.stop;
+      gone = omega (arith, r.ensures.bits, l.invariant.0, ap (λ (m : Meaning). length m.waiting) f.left);
+      capacity = ap (λ (m : Meaning). m.capacity) f.left ∙ l.invariant.1;
     }

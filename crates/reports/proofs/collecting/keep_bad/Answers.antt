@@ -1,15 +1,15 @@
-use Rattle.std.proofs.Common.{[], ◌∷◌, ◌++◌}
+use Rattle.std.proofs.Common.{rules, ◌≡◌, [], ◌∷◌, ◌++◌}
+use Rattle.std.specs.Option.{option_map, option_to_list}
 use Rattle.reports.specs.declared.report.Report.TheVariants.{Bad}
-use Rattle.reports.specs.Collecting.{settlement_reports, lost_reports}
-use Rattle.reports.proofs.Keeping.{kept_then}
+use Rattle.reports.specs.Shown.{settlement_report}
+use Rattle.reports.proofs.Keeping.{filled_then}
 use Rattle.reports.proofs.collecting.keep_bad.Goals as goal
 
 pub returns : goal.returns
 returns c =
-    let bad = c.args.bad in
-    let one = Bad (record { number = bad.number; mask = bad.mask }) ∷ [] in
-    let settled = c.keep_settlement.new.reports in
-    let reported = c.push_sure.new.queue in
-    let last = c.keep_lost.new.reports in
-    kept_then c.args.reports.now settled last (settlement_reports bad.settlement) (one ++ lost_reports bad.lost) c.keep_settlement.ensures
-    (kept_then settled reported last one (lost_reports bad.lost) c.push_sure.ensures c.keep_lost.ensures)
+    let settled : c.map.result ≡ option_map settlement_report c.args.bad.settlement = search rules in
+    let own = Bad c.into.result ∷ [] in
+    let lost = option_to_list c.then_some.result in
+    let b = c.keep-2.new.queue in
+    let after = filled_then c.keep.new.queue b c.keep-3.new.queue own lost c.keep-2.ensures c.keep-3.ensures in
+    simp (settled, c.into.ensures, c.then_some.ensures) at (filled_then c.args.reports.now c.keep.new.queue c.keep-3.new.queue (option_to_list c.map.result) (own ++ lost) c.keep.ensures after)
