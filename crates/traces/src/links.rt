@@ -86,9 +86,8 @@ fn write_settled<W: fmt::Write>(
     settlement: Option<Settlement>,
 ) -> fmt::Result {
     match settlement {
+        Some(settlement) => write!(f, "{}\t", Report::from(settlement)),
         None => Ok(()),
-        Some(Settlement::Vouched(span)) => write!(f, "{}\t", Report::Vouched(span)),
-        Some(Settlement::Doubtful(span)) => write!(f, "{}\t", Report::Doubtful(span)),
     }
 }
 
@@ -100,20 +99,15 @@ fn write_heard<W: fmt::Write>(f: &mut fmt::Formatter<W>, heard: Heard) -> fmt::R
         Heard::Gained => write!(f, "{}", Report::Gained),
         Heard::Good(good) => {
             write_settled(f, good.settlement)?;
-            let number = good.number;
-            let dword = good.dword;
-            write!(f, "{}", DwordRecord { number, dword })
+            write!(f, "{}", DwordRecord::from(good))
         }
         Heard::Bad(bad) => {
             write_settled(f, bad.settlement)?;
-            let number = bad.number;
-            let mask = bad.mask;
-            write!(f, "{}", Report::Bad(BadReport { number, mask }))?;
+            write!(f, "{}", Report::Bad(BadReport::from(bad)))?;
             if bad.lost {
-                write!(f, "\t{}", Report::Lost)
-            } else {
-                Ok(())
+                write!(f, "\t{}", Report::Lost)?;
             }
+            Ok(())
         }
     }
 }
