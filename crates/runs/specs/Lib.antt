@@ -1,4 +1,6 @@
+pub mod Driving
 pub mod EndRuns
 pub mod LentRuns
 pub mod LinkRuns
+pub mod Shown
 pub mod WholeRuns

@@ -1,32 +1,10 @@
 // Any list of calls on two ends that nobody has used, with every answer written into lent memory.
-ghost use Rattle.std.specs.Prelude.{◌≡◌, ◌≤◌, length, IfOk};
+ghost use Rattle.std.specs.Prelude.{length, IfOk};
 ghost use Rattle.runs.specs.EndRuns.{Stand};
 ghost use Rattle.runs.specs.LentRuns.{courses, Written, Answered, Declined, EndsAgree};
 
-use crate::ends::{EndAnswer, EndCall, TwoEnds, call_end};
+use crate::ends::{EndAnswer, EndCall, TwoEnds, ends_agree, make_calls};
 use crate::refusal::RunRefusal;
-use bringup::end::End;
-
-// Makes the calls on two new ends, and writes each answer to its place.
-pub(crate) fn make_calls_lent(calls: &[EndCall], answers: &mut [EndAnswer]) -> TwoEnds
-    requires { length calls.now ≤ length answers.old }
-    ensures ends { Stand (courses calls.now) result }
-    ensures answers { Written calls.now answers.old answers.new }
-{
-    let mut ends = TwoEnds {
-        first: End::new(),
-        second: End::new(),
-    };
-    for i in 0..calls.len() {
-        answers[i] = call_end(&mut ends, calls[i]);
-    }
-    ends
-}
-
-// The law of agreement, which holds of any calls: there is nothing to do for it.
-pub(crate) fn ends_agree(_calls: &[EndCall])
-    ensures { EndsAgree _calls.now }
-{}
 
 // Makes the calls on two ends that nobody has used, and gives the ends. Each answer goes to its place in the memory; if
 // there are fewer places than calls, nothing is done. That the two ends agree on a fair line is part of the promise.
@@ -40,5 +18,5 @@ pub fn run_ends_lent(calls: &[EndCall], answers: &mut [EndAnswer]) -> Result<Two
     if answers.len() < calls.len() {
         return Err(RunRefusal::TooFewPlaces);
     }
-    Ok(make_calls_lent(calls, answers))
+    Ok(make_calls(calls, answers))
 }

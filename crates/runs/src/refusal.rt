@@ -1,6 +1,6 @@
 // Why a driver makes no call.
 
-#[derive(Clone, Copy)]
+#[derive(Clone, Copy, PartialEq, Eq, Debug)]
 pub enum RunRefusal {
     // the memory has fewer places than there are calls
     TooFewPlaces,

@@ -1,19 +1,16 @@
 // One run of everything: calls on two ends, and on two links.
-ghost use Rattle.std.specs.Prelude.{◌≡◌, ℕ, ◌+◌, List, reverse, length, take, drop, IfOk, OnOk};
+ghost use Rattle.std.specs.Prelude.{◌≡◌, reverse, length, take, IfOk, OnOk};
 ghost use Rattle.line.specs.Writing.{Still};
 ghost use Rattle.transcript.specs.Laws.{SendersAgree};
 ghost use Rattle.runs.specs.EndRuns.{Stand};
 ghost use Rattle.runs.specs.LentRuns.{courses, Written, EndsAgree};
-ghost use Rattle.runs.specs.LinkRuns.{Lawful};
+ghost use Rattle.runs.specs.LinkRuns.{LinkRan, SamePlaces};
 ghost use Rattle.runs.specs.WholeRuns.{WholeDeclined};
 
-use crate::ends::{EndAnswer, EndCall, TwoEnds};
-use crate::lent::{ends_agree, make_calls_lent};
-use crate::links::run_from_empty;
+use crate::ends::{EndAnswer, EndCall, TwoEnds, ends_agree, make_calls};
+use crate::links::LinkRun;
 use crate::refusal::RunRefusal;
 use line::tap::{Line, Tap};
-use link::sender::Sender;
-use transcript::call::{LinkCall, LinkEvent};
 
 // Makes calls on two ends that nobody has used, and on two links, each an empty line with its sender and a new receiver.
 // Each answer and each event goes to its place in the memory. If a memory has fewer places than its calls, or bits wait on
@@ -21,51 +18,34 @@ use transcript::call::{LinkCall, LinkEvent};
 // receiver hands out is what was sent; what it vouches for is what was sent there, and every turned bit is refused; and
 // two senders that were opened alike put equal bits exactly when they were given equal dwords.
 pub fn run_all<L: Line, M: Line>(
-    end_calls: &[EndCall],
-    end_answers: &mut [EndAnswer],
-    line: &mut L,
-    sender: &mut Sender,
-    calls: &[LinkCall],
-    events: &mut [LinkEvent],
-    other_line: &mut M,
-    other_sender: &mut Sender,
-    other_calls: &[LinkCall],
-    other_events: &mut [LinkEvent],
+    calls: &[EndCall],
+    answers: &mut [EndAnswer],
+    one: &mut LinkRun<'_, L>,
+    other: &mut LinkRun<'_, M>,
 ) -> Result<TwoEnds, RunRefusal>
-    ensures agreement { EndsAgree end_calls.now }
-    ensures ends { IfOk result (λ ends. Stand (courses end_calls.now) ends) }
-    ensures answers { OnOk result (Written end_calls.now end_answers.old end_answers.new) }
-    ensures link { OnOk result (Lawful (L.Tap.meaning line.old).capacity sender.old.disparity calls.now
-        (take (length calls.now) events.new) (L.Tap.meaning line.new) sender.new.disparity) }
-    ensures rest { OnOk result (drop (length calls.now) events.new ≡ drop (length calls.now) events.old) }
-    ensures other_link { OnOk result (Lawful (M.Tap.meaning other_line.old).capacity other_sender.old.disparity other_calls.now
-        (take (length other_calls.now) other_events.new) (M.Tap.meaning other_line.new) other_sender.new.disparity) }
-    ensures other_rest { OnOk result (drop (length other_calls.now) other_events.new ≡ drop (length other_calls.now) other_events.old) }
-    ensures senders { OnOk result (other_sender.old.disparity ≡ sender.old.disparity
-        → SendersAgree sender.old.disparity (reverse (take (length calls.now) events.new))
-        (reverse (take (length other_calls.now) other_events.new))) }
-    ensures declined { WholeDeclined (length end_calls.now) (length end_answers.old) (length calls.now) (length events.old)
-        (length other_calls.now) (length other_events.old)
-        (length (L.Tap.meaning line.old).waiting) (length (M.Tap.meaning other_line.old).waiting) result }
-    ensures answers_still { Still result end_answers.old end_answers.new }
-    ensures line_still { Still result line.old line.new }
-    ensures sender_still { Still result sender.old sender.new }
-    ensures events_still { Still result events.old events.new }
-    ensures other_line_still { Still result other_line.old other_line.new }
-    ensures other_sender_still { Still result other_sender.old other_sender.new }
-    ensures other_events_still { Still result other_events.old other_events.new }
+    ensures agreement { EndsAgree calls.now }
+    ensures ends { IfOk result (λ ends. Stand (courses calls.now) ends) }
+    ensures answers { OnOk result (Written calls.now answers.old answers.new) }
+    ensures link { OnOk result (LinkRan L.Tap.meaning one.old one.new) }
+    ensures other_link { OnOk result (LinkRan M.Tap.meaning other.old other.new) }
+    ensures senders { OnOk result (other.old.sender.now.disparity ≡ one.old.sender.now.disparity
+        → SendersAgree one.old.sender.now.disparity (reverse (take (length one.old.calls.now) one.new.events.now))
+        (reverse (take (length other.old.calls.now) other.new.events.now))) }
+    ensures declined { WholeDeclined L.Tap.meaning M.Tap.meaning (length calls.now) (length answers.old) one.old other.old result }
+    ensures answers_still { Still result answers.old answers.new }
+    ensures link_still { Still result one.old one.new }
+    ensures other_link_still { Still result other.old other.new }
+    ensures link_same { SamePlaces one.old one.new }
+    ensures other_link_same { SamePlaces other.old other.new }
 {
-    ends_agree(end_calls);
-    if end_answers.len() < end_calls.len()
-        || events.len() < calls.len()
-        || other_events.len() < other_calls.len()
-    {
+    ends_agree(calls);
+    if answers.len() < calls.len() || !one.has_places() || !other.has_places() {
         return Err(RunRefusal::TooFewPlaces);
     }
-    if line.count() > 0 || other_line.count() > 0 {
+    if !one.is_empty() || !other.is_empty() {
         return Err(RunRefusal::BitsWaiting);
     }
-    run_from_empty(line, sender, calls, events);
-    run_from_empty(other_line, other_sender, other_calls, other_events);
-    Ok(make_calls_lent(end_calls, end_answers))
+    one.make_calls();
+    other.make_calls();
+    Ok(make_calls(calls, answers))
 }

@@ -1,7 +1,7 @@
 use Rattle.std.proofs.Common.{map}
 use Rattle.agreement.proofs.Calls.{fair_lines_agree}
 use Rattle.runs.specs.EndRuns.{meant}
-use Rattle.runs.proofs.lent.ends_agree.Goals as goal
+use Rattle.runs.proofs.ends.ends_agree.Goals as goal
 
 pub returns : goal.returns
 returns c = fair_lines_agree (map meant c.args._calls.now)
