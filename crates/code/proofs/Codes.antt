@@ -7,7 +7,7 @@ use Rattle.code.specs.declared.character.numbers.Kind.{Kind}
 use Rattle.code.specs.declared.character.numbers.Kind.TheVariants.{Data, Special}
 use Rattle.code.specs.Kinds.{kind_number, kind_with, code_with}
 use Rattle.code.proofs.Computed.{both_left, both_right, below, at_below, at_disparity_below}
-use Rattle.code.proofs.ProgramTables.{low_of_six, high_of_four}
+use Rattle.code.specs.declared.tables.TheConstants.{LOW_OF_SIX, HIGH_OF_FOUR}
 
 pub true_from : (b : Bool) → T b → b ≡ true
 true_from true t = refl
@@ -68,11 +68,11 @@ at_code_and_disparity f m p k b d v h =
 abbrev pub kind_of : ℕ → ℕ
 kind_of character = cond (eqb (character / 16) 15 || eqb (character / 16) 48) 1 0
 
+abbrev pub four_of : ℕ → ℕ
+four_of character = cond (eqb (character / 16) 48) (15 - character % 16) (character % 16)
+
 abbrev pub byte_of : ℕ → ℕ
-byte_of character =
-    cond (eqb (character / 16) 15) (get_or high_of_four (character % 16) 0 * 32 + 28)
-    (cond (eqb (character / 16) 48) (get_or high_of_four (15 - character % 16) 0 * 32 + 28)
-    (get_or high_of_four (character % 16) 0 * 32 + get_or low_of_six (character / 16) 0))
+byte_of character = get_or HIGH_OF_FOUR (four_of character) 0 * 32 + get_or LOW_OF_SIX (character / 16) 0
 
 pub of_encoded : (k b d : ℕ) → T (valid k b) → d < 2 → (k ≡ kind_of (encoded k b d)) × (b ≡ byte_of (encoded k b d))
 unfolding encoded

@@ -15,36 +15,25 @@ pub implied : (a b : Bool) → T (not a || b) → a ≡ true → T b
 implied true b t e = t
 implied false b t e = let z : ◌≡◌ {A = Bool} false true = e in absurd (both_ways false refl z)
 
--- each entry is what the rule gives at its place, counted from i
-abbrev pub follows : (ℕ → ℕ) → ℕ → List ℕ → Bool
-follows rule i [] = true
-follows rule i (x ∷ xs) = eqb x (rule i) && follows rule (suc i) xs
+-- each entry of a table passes a test at its place, counted from i
+abbrev pub passed : {A : Type 0} (test : ℕ → A → Bool) → ℕ → List A → Bool
+passed test i [] = true
+passed test i (x ∷ xs) = test i x && passed test (suc i) xs
 
-from : (rule : ℕ → ℕ) (xs : List ℕ) (i : ℕ) → T (follows rule i xs) → (k : ℕ) → k < length xs → get_or xs k 0 ≡ rule (i + k)
-from rule [] i t k h = absurd (not-suc-le-zero h)
-from rule (x ∷ xs) i t zero h = subst (λ (m : ℕ). x ≡ rule m) (sym (add-zero i)) (eqb→eq x (rule i) (both_left (eqb x (rule i)) (follows rule (suc i) xs) t))
-from rule (x ∷ xs) i t (suc k) h =
-    subst (λ (m : ℕ). get_or xs k 0 ≡ rule m) (suc-add i k ∙ sym (add-suc i k))
-    (from rule xs (suc i) (both_right (eqb x (rule i)) (follows rule (suc i) xs) t) k (le_of_suc-le-suc h))
+from : {A : Type 0} (test : ℕ → A → Bool) (xs : List A) (none : A) (i : ℕ) → T (passed test i xs)
+    → (k : ℕ) → k < length xs → T (test (i + k) (get_or xs k none))
+from test [] none i t k h = absurd (not-suc-le-zero h)
+from test (x ∷ xs) none i t zero h = subst (λ (m : ℕ). T (test m x)) (sym (add-zero i)) (both_left (test i x) (passed test (suc i) xs) t)
+from test (x ∷ xs) none i t (suc k) h =
+    subst (λ (m : ℕ). T (test m (get_or xs k none))) (suc-add i k ∙ sym (add-suc i k))
+    (from test xs none (suc i) (both_right (test i x) (passed test (suc i) xs) t) k (le_of_suc-le-suc h))
 
-pub entry : (rule : ℕ → ℕ) (xs : List ℕ) → T (follows rule 0 xs) → (k : ℕ) → k < length xs → get_or xs k 0 ≡ rule k
-entry rule xs t k h = subst (λ (m : ℕ). get_or xs k 0 ≡ rule m) (zero-add k) (from rule xs 0 t k h)
+pub entry : {A : Type 0} (test : ℕ → A → Bool) (xs : List A) (none : A) → T (passed test 0 xs) → (k : ℕ) → k < length xs → T (test k (get_or xs k none))
+entry test xs none t k h = subst (λ (m : ℕ). T (test m (get_or xs k none))) (zero-add k) (from test xs none 0 t k h)
 
 -- each entry is below a bound
-abbrev pub small : ℕ → List ℕ → Bool
-small bound [] = true
-small bound (x ∷ xs) = ltb x bound && small bound xs
-
-pub small_entry : (bound : ℕ) (xs : List ℕ) → T (small bound xs) → (k : ℕ) → k < length xs → get_or xs k 0 < bound
-small_entry bound [] t k h = absurd (not-suc-le-zero h)
-small_entry bound (x ∷ xs) t zero h = ltb→lt x bound (both_left (ltb x bound) (small bound xs) t)
-small_entry bound (x ∷ xs) t (suc k) h = small_entry bound xs (both_right (ltb x bound) (small bound xs) t) k (le_of_suc-le-suc h)
-
--- a table at one disparity, where the disparity in hand is that one
-pub column : (rule : ℕ → ℕ → ℕ) (bound at : ℕ) (xs : List ℕ) → T (follows (λ k. rule k at) 0 xs) → T (small bound xs)
-    → (k d : ℕ) → k < length xs → d ≡ at → (get_or xs k 0 ≡ rule k d) × (get_or xs k 0 < bound)
-column rule bound at xs t s k d h e =
-    (subst (λ (m : ℕ). get_or xs k 0 ≡ rule k m) (sym e) (entry (λ (j : ℕ). rule j at) xs t k h), small_entry bound xs s k h)
+pub small_entry : (bound : ℕ) (xs : List ℕ) → T (passed (λ k x. ltb x bound) 0 xs) → (k : ℕ) → k < length xs → get_or xs k 0 < bound
+small_entry bound xs t k h = ltb→lt (get_or xs k 0) bound (entry (λ (k x : ℕ). ltb x bound) xs 0 t k h)
 
 -- a test at each number below n
 abbrev pub below : ℕ → (ℕ → Bool) → Bool

@@ -1,5 +1,6 @@
 -- `decoded` gives the code whose character at the disparity is the one given, and nothing where there is none.
 use Rattle.std.proofs.Common.{◌≡◌, ℕ, zero, suc, ◌<◌, Bool, true, false, cond, ◌&&◌, T, eqb, List, [], ◌∷◌, Some, None, Option, sym, refl, ap, ◌∙◌, subst, ap₂, inl, inr, not-suc-le-zero, arith}
+use Rattle.std.specs.Bool.{then_some}
 use Rattle.std.proofs.lemmas.Bool.{cases_lt, eqb-true, eq-eqb, and_from, and_parts, both_ways}
 use Rattle.code.specs.Characters.{encoded, valid, OnlyCode, codes, data_codes, first_encoded, decoded}
 use Rattle.code.specs.declared.character.Code.{Code}
@@ -66,24 +67,24 @@ missed ch d e k b v =
 
 -- where a character can stand for one code only, decoding is a test of that code
 decoded_by : (ch d : ℕ) (c : Code) → d < 2 → OnlyCode ch c → (r : Bool) → (valid (kind_number c.kind) c.byte && eqb (encoded (kind_number c.kind) c.byte d) ch) ≡ r
-    → (o : Option Code) → decoded ch d ≡ o → Found ch d o → o ≡ cond r (Some c) None
+    → (o : Option Code) → decoded ch d ≡ o → Found ch d o → o ≡ then_some r c
 decoded_by ch d c h only r e (Some x) p f =
     let u = only (kind_number x.kind) x.byte d f.0 h f.1 in
     let same : x ≡ c = sym (code_of_number x) ∙ ap₂ code_with u.0 u.1 ∙ code_of_number c in
     let s = and_from (valid (kind_number x.kind) x.byte) (eqb (encoded (kind_number x.kind) x.byte d) ch) (true_from (valid (kind_number x.kind) x.byte) f.0) (eq-eqb (encoded (kind_number x.kind) x.byte d) ch f.1) in
     let t : r ≡ true = sym e ∙ subst (λ (y : Code). (valid (kind_number y.kind) y.byte && eqb (encoded (kind_number y.kind) y.byte d) ch) ≡ true) same s in
-    ap Some same ∙ ap (λ (q : Bool). cond q (Some c) None) (sym t)
+    ap Some same ∙ ap (λ (q : Bool). then_some q c) (sym t)
 decoded_by ch d c h only true e None p f =
     let parts = and_parts (valid (kind_number c.kind) c.byte) (eqb (encoded (kind_number c.kind) c.byte d) ch) e in
     absurd (both_ways (eqb (encoded (kind_number c.kind) c.byte d) ch) (missed ch d p (kind_number c.kind) c.byte (from_true (valid (kind_number c.kind) c.byte) parts.0)) parts.1)
 decoded_by ch d c h only false e None p f = refl
 
 pub decoded_is : (ch d : ℕ) (c : Code) → d < 2 → OnlyCode ch c
-    → decoded ch d ≡ cond (valid (kind_number c.kind) c.byte && eqb (encoded (kind_number c.kind) c.byte d) ch) (Some c) None
+    → decoded ch d ≡ then_some (valid (kind_number c.kind) c.byte && eqb (encoded (kind_number c.kind) c.byte d) ch) c
 decoded_is ch d c h only = decoded_by ch d c h only (valid (kind_number c.kind) c.byte && eqb (encoded (kind_number c.kind) c.byte d) ch) refl (decoded ch d) refl (found ch d)
 
 pub decoded_with : (ch d k b : ℕ) → T (valid k b) → d < 2 → OnlyCode ch (code_with k b)
-    → decoded ch d ≡ cond (valid k b && eqb (encoded k b d) ch) (Some (code_with k b)) None
+    → decoded ch d ≡ then_some (valid k b && eqb (encoded k b d) ch) (code_with k b)
 decoded_with ch d k b v h only =
-    subst (λ (n : ℕ). decoded ch d ≡ cond (valid n b && eqb (encoded n b d) ch) (Some (code_with k b)) None) (number_of_kind k b v)
+    subst (λ (n : ℕ). decoded ch d ≡ then_some (valid n b && eqb (encoded n b d) ch) (code_with k b)) (number_of_kind k b v)
     (decoded_is ch d (code_with k b) h only)

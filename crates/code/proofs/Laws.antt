@@ -1,5 +1,6 @@
 -- Laws of encoding, decoding and the disparity: each is one test that antt computes over every code, and a lemma that reads it.
 use Rattle.std.proofs.Common.{◌≡◌, ℕ, zero, suc, ◌-◌, ◌*◌, ◌/◌, ◌%◌, ◌<◌, Bool, true, false, cond, not, ◌&&◌, ◌||◌, T, eqb, ltb, Some, None, sym, refl, ap, ◌∙◌, subst, le_of_suc-le-suc, not-suc-le-zero, arith, lit<, eqb→eq, ltb→lt}
+use Rattle.std.specs.Bool.{then_some}
 use Rattle.std.proofs.lemmas.Bool.{eq-eqb, eqb-true, and_from, both_ways, cond-true, cond-false, ne_eqb, eqb-false, not-true, not-false, and_right}
 use Rattle.code.specs.Characters.{encoded, decoded, after, used_after, valid, unlike, OnlyCode, after_half, ones_of, ones_first, ones_last}
 use Rattle.code.specs.Laws as laws
@@ -21,7 +22,7 @@ one_code_to_a_character k b k' b' d d' v v' h h' e =
 pub decoding_undoes_encoding : laws.DecodingUndoesEncoding
 decoding_undoes_encoding k b d v h =
     decoded_with (encoded k b d) d k b v h (only_encoded k b d v h)
-    ∙ cond-true (valid k b && eqb (encoded k b d) (encoded k b d)) (Some (code_with k b)) None
+    ∙ ap (λ (t : Bool). then_some t (code_with k b))
     (and_from (valid k b) (eqb (encoded k b d) (encoded k b d)) (true_from (valid k b) v) (eq-eqb (encoded k b d) (encoded k b d) refl))
 
 pub decoded_stands_there : laws.DecodedStandsThere
@@ -86,7 +87,7 @@ differs k b (suc (suc d)) h u = absurd (not-suc-le-zero (le_of_suc-le-suc (le_of
 other_column : (k b d : ℕ) → T (valid k b) → d < 2 → unlike k b ≡ true → decoded (encoded k b d) (1 - d) ≡ None
 other_column k b d v h u =
     decoded_with (encoded k b d) (1 - d) k b v (omega arith) (only_encoded k b d v h)
-    ∙ cond-false (valid k b && eqb (encoded k b (1 - d)) (encoded k b d)) (Some (code_with k b)) None
+    ∙ ap (λ (t : Bool). then_some t (code_with k b))
     (and_right (valid k b) (eqb (encoded k b (1 - d)) (encoded k b d)) (differs k b d h u))
 
 pub unlike_columns_set_disparity : laws.UnlikeColumnsSetDisparity

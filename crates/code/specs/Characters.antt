@@ -2,6 +2,7 @@
 -- and a character is a number below 1024 whose highest bit is the first one sent.
 use Rattle.std.specs.Prelude.{◌≡◌, ℕ, zero, suc, ◌+◌, ◌-◌, ◌*◌, ◌/◌, ◌%◌, ◌^◌, ◌<◌, Bool, cond, not, ◌&&◌, ◌||◌, T, List, [], ◌∷◌, Some, None, Option, ◌==◌, nat_lt, slice_index}
 use Rattle.code.specs.declared.character.Code.{Code}
+use Rattle.code.specs.declared.character.numbers.Kind.{Kind}
 use Rattle.code.specs.Kinds.{kind_number, code_with}
 
 -- The six-bit halves at minus, by the low five bits of the byte.
@@ -70,6 +71,9 @@ alternate_at_minus low = low == 17 || low == 18 || low == 20
 abbrev pub alternate_at_plus : ℕ → Bool
 alternate_at_plus low = low == 11 || low == 13 || low == 14
 
+abbrev pub is_alternate : ℕ → ℕ → ℕ → Bool
+is_alternate low high disparity = high == 7 && cond (disparity == 0) (alternate_at_minus low) (alternate_at_plus low)
+
 -- The four-bit half, at the disparity that the six-bit half leaves.
 unfoldable pub four_after : ℕ → ℕ → ℕ → ℕ
 unfolding four_of
@@ -102,6 +106,10 @@ special byte = byte == 0x7C || byte == 0xBC
 -- The valid codes: every data byte, K28.3 and K28.5.
 abbrev pub valid : ℕ → ℕ → Bool
 valid kind byte = cond (kind == 0) (nat_lt byte 256) (kind == 1 && special byte)
+
+-- The code of a kind and a byte, if it is valid.
+abbrev pub valid_code : Kind → ℕ → Option Code
+valid_code kind byte = cond (valid (kind_number kind) byte) (Some (record { kind = kind; byte = byte })) None
 
 -- Whichever column a character is read in, no other code than this one has it.
 abbrev pub OnlyCode : ℕ → Code → Type 0

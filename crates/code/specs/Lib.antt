@@ -1,6 +1,8 @@
 pub mod Bits
 pub mod Kinds
+pub mod Disparities
 pub mod Characters
+pub mod Halves
 pub mod Refusals
 pub mod Encodings
 pub mod Decodings

@@ -1,19 +1,19 @@
-// Characters made of their halves. A disparity is 0 (minus) or 1 (plus).
-ghost use Rattle.std.specs.Prelude.{◌≡◌, ◌<◌, if◌then◌else◌, nat_eq};
+// Characters made of their halves.
+ghost use Rattle.std.specs.Prelude.{◌≡◌, ◌<◌};
 ghost use Rattle.code.specs.Kinds.{kind_number};
-ghost use Rattle.code.specs.Characters.{after, after_half, six_of, four_of, four_after, valid, unlike, alternate_at_minus, alternate_at_plus};
+ghost use Rattle.code.specs.Disparities.{disparity_number};
+ghost use Rattle.code.specs.Halves.{IsHalf};
+ghost use Rattle.code.specs.Characters.{after, is_alternate, four_after, valid, valid_code, unlike};
 ghost use Rattle.code.specs.Encodings.{data_sent, special_sent, sent_as};
 
-use crate::tables::{
-    FOUR_AT_MINUS, FOUR_AT_PLUS, KEPT, SET_BY_FOUR, SET_BY_SIX, SIX_AT_MINUS, SIX_AT_PLUS,
-};
+use crate::tables::{ALTERNATE_SEVEN, FOURS, Half, SET_BY_FOUR, SET_BY_SIX, SIXES};
 
 pub mod decoding;
 pub mod encoding;
 pub mod examples;
 pub mod numbers;
 
-use numbers::Kind;
+use numbers::{Disparity, Kind};
 
 // The bytes of the special codes K28.3 and K28.5.
 pub const K28_3: u8 = 0x7C;
@@ -28,126 +28,86 @@ pub struct Code {
 }
 
 // A character, its first bit highest, and the disparity after it.
-#[derive(Clone, Copy)]
+// Kept: the disparity is a number, since the next call takes it by number.
+#[derive(Clone, Copy, PartialEq, Eq, Debug)]
 pub struct Encoded {
     pub character: u16,
     pub disparity: u8,
 }
 
-// The disparity after a half that sets `set`, or keeps what it finds.
-fn set_or_kept(set: u8, disparity: u8) -> u8
-    ensures { result ≡ (if nat_eq set 2 then disparity else set) }
-{
-    if set == KEPT { disparity } else { set }
-}
-
-fn after_six(half: u8, disparity: u8) -> u8
-    requires { half < 64 }
-    ensures { result ≡ after_half 6 half disparity }
-{
-    set_or_kept(SET_BY_SIX[half as usize], disparity)
-}
-
-fn after_four(half: u8, disparity: u8) -> u8
-    requires { half < 16 }
-    ensures { result ≡ after_half 4 half disparity }
-{
-    set_or_kept(SET_BY_FOUR[half as usize], disparity)
-}
-
 // The disparity after a received character, valid or not.
-fn next_disparity(character: u16, disparity: u8) -> u8
+fn next_disparity(character: u16, disparity: Disparity) -> Disparity
     requires { character < 1024 }
-    ensures { result ≡ after character disparity }
+    ensures { disparity_number result ≡ after character (disparity_number disparity) }
 {
-    let middle = after_six((character / 16) as u8, disparity);
-    after_four((character % 16) as u8, middle)
+    let middle = SET_BY_SIX[(character / 16) as usize].unwrap_or(disparity);
+    SET_BY_FOUR[(character % 16) as usize].unwrap_or(middle)
 }
 
-fn six_half(low: u8, disparity: u8) -> u8
-    requires { (low < 32) × (disparity < 2) }
-    ensures { (result ≡ six_of low disparity) × (result < 64) }
+// Whether a byte's four-bit half is alternate: that of a high 7 after some low bits.
+fn is_alternate(low: u8, high: u8, disparity: Disparity) -> bool
+    ensures { result ≡ is_alternate low high (disparity_number disparity) }
 {
-    if disparity == 0 {
-        SIX_AT_MINUS[low as usize]
-    } else {
-        SIX_AT_PLUS[low as usize]
-    }
-}
-
-fn four_half(high: u8, disparity: u8) -> u8
-    requires { (high < 8) × (disparity < 2) }
-    ensures { (result ≡ four_of high disparity) × (result < 16) }
-{
-    if disparity == 0 {
-        FOUR_AT_MINUS[high as usize]
-    } else {
-        FOUR_AT_PLUS[high as usize]
-    }
-}
-
-// After these low bits a high 7 has an alternate half at minus, and after those below at plus.
-fn alternate_at_minus(low: u8) -> bool
-    ensures { result ≡ alternate_at_minus low }
-{
-    low == 17 || low == 18 || low == 20
-}
-
-fn alternate_at_plus(low: u8) -> bool
-    ensures { result ≡ alternate_at_plus low }
-{
-    low == 11 || low == 13 || low == 14
+    high == 7
+        && match disparity {
+            Disparity::Minus => low == 17 || low == 18 || low == 20,
+            Disparity::Plus => low == 11 || low == 13 || low == 14,
+        }
 }
 
 // The four-bit half at the disparity that the six-bit half leaves.
-fn four_after_six(low: u8, high: u8, disparity: u8) -> u8
-    requires { (high < 8) × (disparity < 2) }
-    ensures { (result ≡ four_after low high disparity) × (result < 16) }
+fn four_half(low: u8, high: u8, disparity: Disparity) -> Half
+    requires { high < 8 }
+    ensures { IsHalf 4 result (four_after low high (disparity_number disparity)) (disparity_number disparity) }
 {
-    if high == 7 && disparity == 0 && alternate_at_minus(low) {
-        0b0111
-    } else if high == 7 && disparity == 1 && alternate_at_plus(low) {
-        0b1000
+    if is_alternate(low, high, disparity) {
+        ALTERNATE_SEVEN
     } else {
-        four_half(high, disparity)
+        FOURS[high as usize]
     }
 }
 
-fn data_character(byte: u8, disparity: u8) -> Encoded
-    requires { disparity < 2 }
-    ensures { result ≡ data_sent byte disparity }
+fn data_character(byte: u8, disparity: Disparity) -> Encoded
+    ensures { result ≡ data_sent byte (disparity_number disparity) }
 {
     let low = byte % 32;
-    let six = six_half(low, disparity);
-    let middle = after_six(six, disparity);
-    let four = four_after_six(low, byte / 32, middle);
+    let six = SIXES[low as usize];
+    let middle = six.then(disparity);
+    let four = four_half(low, byte / 32, middle);
     Encoded {
-        character: six as u16 * 16 + four as u16,
-        disparity: after_four(four, middle),
+        character: six.at(disparity) as u16 * 16 + four.at(middle) as u16,
+        disparity: four.then(middle).into(),
     }
 }
 
 // Both special characters leave the other disparity.
-fn special_character(byte: u8, disparity: u8) -> Encoded
-    requires { disparity < 2 }
-    ensures { result ≡ special_sent byte disparity }
+fn special_character(byte: u8, disparity: Disparity) -> Encoded
+    ensures { result ≡ special_sent byte (disparity_number disparity) }
 {
     let at_minus = if byte == K28_5 {
         0b001111_1010
     } else {
         0b001111_0011
     };
+    let character = match disparity {
+        Disparity::Minus => at_minus,
+        Disparity::Plus => 1023 - at_minus,
+    };
     Encoded {
-        character: if disparity == 0 {
-            at_minus
-        } else {
-            1023 - at_minus
-        },
-        disparity: 1 - disparity,
+        character,
+        disparity: disparity.other().into(),
     }
 }
 
 impl Code {
+    // The code of a kind and a byte, if it is a valid one.
+    fn new(kind: Kind, byte: u8) -> Option<Code>
+        ensures { result ≡ valid_code kind byte }
+    {
+        let code = Code { kind, byte };
+        code.is_valid().then_some(code)
+    }
+
     // Every data byte is valid, and K28.3 and K28.5.
     fn is_valid(self) -> bool
         ensures { result ≡ valid (kind_number self.kind) self.byte }
@@ -160,9 +120,8 @@ impl Code {
 
     // The character of the code, whose special byte is taken for K28.3 where it is not K28.5.
     #[tactic(auto, unfolding(crate::specs::Characters::encoded))]
-    fn encoded(self, disparity: u8) -> Encoded
-        requires { disparity < 2 }
-        ensures { result ≡ sent_as (kind_number self.kind) self.byte disparity }
+    fn encoded(self, disparity: Disparity) -> Encoded
+        ensures { result ≡ sent_as (kind_number self.kind) self.byte (disparity_number disparity) }
     {
         match self.kind {
             Kind::Data => data_character(self.byte, disparity),
@@ -174,6 +133,6 @@ impl Code {
     pub fn has_unlike_columns(self) -> bool
         ensures { result ≡ unlike (kind_number self.kind) self.byte }
     {
-        self.encoded(0).character != self.encoded(1).character
+        self.encoded(Disparity::Minus).character != self.encoded(Disparity::Plus).character
     }
 }

@@ -2,9 +2,9 @@
 ghost use Rattle.std.specs.Prelude.{◌≡◌};
 ghost use Rattle.code.specs.Refusals.{numbered};
 ghost use Rattle.code.specs.Encodings.{encode_refusal, encoding};
-ghost use Rattle.code.specs.declared.character.encoding.EncodeRefusal.TheVariants.{KindAboveOne};
+ghost use Rattle.code.specs.declared.character.encoding.EncodeRefusal.TheVariants.{KindAboveOne, DisparityAboveOne};
 
-use super::numbers::{Kind, UnknownKind};
+use super::numbers::{Disparity, Kind, UnknownDisparity, UnknownKind};
 use super::{Code, Encoded};
 use crate::refusal::Refusal;
 
@@ -35,18 +35,21 @@ impl From<UnknownKind> for EncodeRefusal {
     }
 }
 
+impl From<UnknownDisparity> for EncodeRefusal {
+    ghost from_gives = { λ unknown refusal. refusal ≡ DisparityAboveOne };
+
+    fn from(_unknown: UnknownDisparity) -> EncodeRefusal {
+        EncodeRefusal::DisparityAboveOne
+    }
+}
+
 // The character of a code at a disparity, and the disparity after it.
 // Kept: kind and disparity are numbers, since those above 1 are refused by number, and C calls this.
 pub fn encode(kind: u8, byte: u8, disparity: u8) -> Result<Encoded, EncodeRefusal>
     ensures { numbered encode_refusal result ≡ encoding kind byte disparity }
 {
     let kind = Kind::try_from(kind)?;
-    let code = Code { kind, byte };
-    if !code.is_valid() {
-        return Err(EncodeRefusal::NotSpecial);
-    }
-    if disparity > 1 {
-        return Err(EncodeRefusal::DisparityAboveOne);
-    }
+    let code = Code::new(kind, byte).ok_or(EncodeRefusal::NotSpecial)?;
+    let disparity = Disparity::try_from(disparity)?;
     Ok(code.encoded(disparity))
 }

@@ -1,26 +1,38 @@
-use Rattle.std.proofs.Common.{◌≡◌, ℕ, ◌+◌, ◌*◌, ◌/◌, ◌%◌, ◌<◌, sym, ap, ◌∙◌, ap₂, arith}
-use Rattle.code.specs.Characters.{data_character, after, after_half}
-use Rattle.code.proofs.Halves.{middle_is, after_halves}
+use Rattle.std.proofs.Common.{◌≡◌, ℕ, ◌+◌, ◌*◌, ◌/◌, ◌%◌, ◌<◌, get_or, ltb, ◌∙◌, ap₂, arith}
+use Rattle.std.proofs.lemmas.Bool.{lt-ltb}
+use Rattle.code.specs.Disparities.{disparity_number}
+use Rattle.code.specs.Halves.{half_at, half_then}
+use Rattle.code.specs.declared.tables.TheConstants.{SIXES}
+use Rattle.code.specs.Characters.{encoded, data_character, after, six_of, four_after, used_after}
+use Rattle.code.specs.Encodings.{data_sent}
+use Rattle.code.specs.declared.character.Encoded.{Encoded}
+use Rattle.code.proofs.Codes.{from_true}
+use Rattle.code.proofs.Halves.{none, disparity_small, six_in_table}
+use Rattle.code.proofs.Laws.{next_disparities_agree}
 use Rattle.code.proofs.character.data_character.Goals as goal
 
-pub four_after_six-four-requires : goal.four_after_six-four-requires
-four_after_six-four-requires c =
-    let l : c.args.byte % 32 < 32 = omega arith in
-    let h : c.args.byte / 32 < 8 = omega arith in
-    (h, (middle_is (c.args.byte % 32) c.args.disparity c.six_half-six.result c.after_six-middle.result l c.requires c.six_half-six.ensures.0 c.after_six-middle.ensures).1)
+-- the halves make the character, and leave the disparity that follows it
+data_sent_as : (byte d six four middle next : ℕ) → byte < 256 → d < 2 → four < 16 → six ≡ six_of (byte % 32) d
+    → middle ≡ used_after 6 (six_of (byte % 32) d) d → four ≡ four_after (byte % 32) (byte / 32) middle
+    → next ≡ used_after 4 (four_after (byte % 32) (byte / 32) middle) middle
+    → ◌≡◌ {A = Encoded} (record { character = six * 16 + four; disparity = next }) (data_sent byte d)
+unfolding data_character encoded
+data_sent_as byte d six four middle next hb hd h s m f n =
+    let character : six * 16 + four ≡ data_character byte d = cc (m, s, f) in
+    let high : (six * 16 + four) / 16 ≡ six = omega arith in
+    let low : (six * 16 + four) % 16 ≡ four = omega arith in
+    let agree : after (data_character byte d) d ≡ used_after 4 (data_character byte d % 16) (used_after 6 (data_character byte d / 16) d)
+    = next_disparities_agree 0 byte d (from_true (ltb byte 256) (lt-ltb byte 256 hb)) hd in
+    ap₂ (λ (x n : ℕ). record { character = x; disparity = n }) character (cc (n, f, m, s, character, high, low, agree))
 
 pub returns : goal.returns
-unfolding data_character
 returns c =
     let byte = c.args.byte in
-    let d = c.args.disparity in
-    let six = c.six_half-six.result in
-    let middle = c.after_six-middle.result in
-    let four = c.four_after_six-four.result in
-    let l : byte % 32 < 32 = omega arith in
-    let m = (middle_is (byte % 32) d six middle l c.requires c.six_half-six.ensures.0 c.after_six-middle.ensures).0 in
-    let character : six * 16 + four ≡ data_character byte d = cc (m, c.six_half-six.ensures.0, c.four_after_six-four.ensures.0) in
-    let next : c.after_four.result ≡ after (six * 16 + four) d =
-    c.after_four.ensures
-    ∙ (ap (after_half 4 four) c.after_six-middle.ensures ∙ sym (after_halves six four d c.four_after_six-four.ensures.1)) in
-    ap₂ (λ (x n : ℕ). record { character = x; disparity = n }) character (next ∙ ap (λ (x : ℕ). after x d) character)
+    let d = disparity_number c.args.disparity in
+    let s = six_in_table (byte % 32) c.args.disparity (omega arith) in
+    let six : c.at.result ≡ half_at (get_or SIXES (byte % 32) none) d = c.at.ensures in
+    let middle : disparity_number c.then-middle.result ≡ half_then (get_or SIXES (byte % 32) none) d = c.then-middle.ensures in
+    let four = c.four_half-four.ensures in
+    let small : c.at-2.result < 16 = rw c.at-2.ensures four.fits in
+    data_sent_as byte d c.at.result c.at-2.result (disparity_number c.then-middle.result) c.into.result (omega arith) (disparity_small c.args.disparity) small
+    (six ∙ s.stands) (middle ∙ s.leaves) (c.at-2.ensures ∙ four.stands) (c.into.ensures ∙ c.then.ensures ∙ four.leaves)

@@ -1,47 +1,22 @@
-use Rattle.std.proofs.Common.{◌-◌, ◌/◌, ◌%◌, ◌<◌, arith}
+use Rattle.std.proofs.Common.{◌≡◌, ◌+◌, ◌*◌, ◌/◌, ◌<◌, get_or, Fits, w8, arith}
 use Rattle.std.proofs.lemmas.Bool.Decides.{nat_tests}
-use Rattle.code.specs.declared.character.numbers.Kind.TheVariants.{Data, Special}
+use Rattle.code.specs.declared.tables.TheConstants.{LOW_OF_SIX, HIGH_OF_FOUR}
+use Rattle.code.specs.Kinds.{kind_number}
 use Rattle.code.proofs.Computed.{small_entry}
-use Rattle.code.proofs.ProgramTables.{low_of_six, high_of_four}
-use Rattle.code.proofs.Codes.{only_code}
+use Rattle.code.proofs.Codes.{kind_of, four_of, only_code}
 use Rattle.code.proofs.character.decoding.only_code.Goals as goal
-
-pub overflow_mul-result : goal.overflow_mul-result
-overflow_mul-result c =
-    let l : c.args.character % 16 < 16 = omega arith in
-    omega (arith, small_entry 8 high_of_four tt (c.args.character % 16) l)
 
 pub overflow_add-result : goal.overflow_add-result
 overflow_add-result c =
-    let l : c.args.character % 16 < 16 = omega arith in
-    omega (arith, small_entry 8 high_of_four tt (c.args.character % 16) l)
+    let four = c.match-six-div16.kind.1 in
+    let six = c.args.character / 16 in
+    let nibble : four < 16 = grind (arith, nat_tests) in
+    let fits : Fits w8 (get_or HIGH_OF_FOUR four 0 * 32 + get_or LOW_OF_SIX six 0) =
+    omega (arith, small_entry 8 HIGH_OF_FOUR tt four nibble, small_entry 32 LOW_OF_SIX tt six (omega arith)) in
+    fits
 
-pub overflow_mul-result-then-six-eq48 : goal.overflow_mul-result-then-six-eq48
-overflow_mul-result-then-six-eq48 c =
-    let l : 15 - c.args.character % 16 < 16 = omega arith in
-    omega (arith, small_entry 8 high_of_four tt (15 - c.args.character % 16) l)
-
-pub overflow_add-result-then-six-eq48 : goal.overflow_add-result-then-six-eq48
-overflow_add-result-then-six-eq48 c =
-    let l : 15 - c.args.character % 16 < 16 = omega arith in
-    omega (arith, small_entry 8 high_of_four tt (15 - c.args.character % 16) l)
-
-pub overflow_mul-result-else-six-eq48 : goal.overflow_mul-result-else-six-eq48
-overflow_mul-result-else-six-eq48 c =
-    let l : c.args.character % 16 < 16 = omega arith in
-    omega (arith, small_entry 8 high_of_four tt (c.args.character % 16) l)
-
-pub overflow_add-result-else-six-eq48 : goal.overflow_add-result-else-six-eq48
-overflow_add-result-else-six-eq48 c =
-    let l : c.args.character % 16 < 16 = omega arith in
-    let s : c.args.character / 16 < 64 = omega arith in
-    omega (arith, small_entry 8 high_of_four tt (c.args.character % 16) l, small_entry 32 low_of_six tt (c.args.character / 16) s)
-
-pub returns-then-six-eq15 : goal.returns-then-six-eq15
-returns-then-six-eq15 c = only_code c.args.character Special _ (grind (arith, nat_tests)) (grind (arith, nat_tests))
-
-pub returns-then-six-eq48 : goal.returns-then-six-eq48
-returns-then-six-eq48 c = only_code c.args.character Special _ (grind (arith, nat_tests)) (grind (arith, nat_tests))
-
-pub returns-else-six-eq48 : goal.returns-else-six-eq48
-returns-else-six-eq48 c = only_code c.args.character Data _ (grind (arith, nat_tests)) (grind (arith, nat_tests))
+pub returns : goal.returns
+returns c =
+    let kind : kind_number c.match-six-div16.kind.0 ≡ kind_of c.args.character = grind (arith, nat_tests) in
+    let four : c.match-six-div16.kind.1 ≡ four_of c.args.character = grind (arith, nat_tests) in
+    only_code c.args.character c.match-six-div16.kind.0 _ kind (cc four)
