@@ -9,12 +9,11 @@ use Rattle.link.specs.declared.reading.Verdict.TheVariants.{Vouches, Doubts}
 use Rattle.link.specs.declared.heard.Span.{Span}
 use Rattle.link.specs.declared.heard.Settlement.{Settlement}
 use Rattle.link.specs.declared.heard.Settlement.TheVariants.{Vouched, Doubtful}
+use Rattle.link.specs.declared.heard.Heard.{Heard}
 use Rattle.link.specs.declared.heard.Heard.TheVariants.{More, Slip, Gained, Good, Bad}
 use Rattle.link.specs.declared.state.Framing.{Framing}
 use Rattle.link.specs.declared.state.Ledger.{Ledger}
 use Rattle.link.specs.declared.state.State.{State}
-use Rattle.link.specs.declared.state.Hearing.{Hearing}
-use Rattle.link.specs.declared.state.Closing.{Closing}
 use Rattle.link.specs.Readings.{reading, kind_of, byte_of, mask, is_good, dword, verdict}
 
 -- No bit and no character yet, of a comma or of a dword.
@@ -29,7 +28,18 @@ fresh = record {
   ledger = record { synced = false; count = 0; number = 0; debt = 0; single = false; pending = 0 };
 }
 
+-- The state after a bit, and the answer.
+pub record Hearing : Type 0 where
+  pub state : State
+  pub heard : Heard
+
 -- ---- The end of a dword
+
+-- Whether hunting begins again, the ledger after the dword, and the answer.
+pub record Closing : Type 0 where
+  pub hunting : Bool
+  pub ledger : Ledger
+  pub heard : Heard
 
 -- The open stretch: the latest dwords, as many as are pending.
 abbrev pub stretch : Ledger → Span
@@ -176,6 +186,11 @@ after_dword disparity c = record {
   state = record { framing = empty_frame c.hunting; disparity = disparity; ledger = c.ledger };
   heard = c.heard;
 }
+
+-- The last bit of a dword is heard as its end, and any other tells nothing.
+abbrev pub ended : Option Readings → State → Hearing
+ended None s = record { state = s; heard = More }
+ended (Some readings) s = after_dword s.disparity (closing readings s.ledger)
 
 unfoldable pub completed : State → ℕ → Hearing
 completed s character =

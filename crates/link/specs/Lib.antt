@@ -1,6 +1,5 @@
 pub mod Readings
 pub mod Hearing
-pub mod Sound
 pub mod Receiving
 pub mod Sending
 pub mod Accepting

@@ -1,12 +1,12 @@
 // Characters as a receiver reads them, and the four of a dword.
-ghost use Rattle.std.specs.Prelude.{◌≡◌, ◌≤◌};
+ghost use Rattle.std.specs.Prelude.{◌≡◌, ◌≤◌, if◌then◌else◌};
 ghost use Rattle.link.specs.Readings.{placed, is_refused, code_of, weight, mask, is_good, dword, own_verdict, verdict};
 
 use crate::dword::Dword;
 use code::{Code, Kind};
 
 // What a character was read as: refused, or a code, by whether its two columns are alike.
-#[derive(Clone, Copy)]
+#[derive(Clone, Copy, PartialEq, Eq, Debug)]
 pub enum Reading {
     Refused,
     Like(Code),
@@ -14,7 +14,8 @@ pub enum Reading {
 }
 
 // The readings of a dword's four characters.
-#[derive(Clone, Copy)]
+// Kept: four named fields, as what is said of a dword's places has a field for each.
+#[derive(Clone, Copy, PartialEq, Eq, Debug)]
 pub struct Readings {
     pub first: Reading,
     pub second: Reading,
@@ -51,16 +52,12 @@ impl Reading {
     }
 
     // The code, of which a refused character has none.
-    fn code(self) -> Code
-        ensures { result ≡ code_of self }
+    fn code(self) -> Option<Code>
+        ensures { result ≡ (if is_refused self then None else Some (code_of self)) }
     {
         match self {
-            Reading::Refused => Code {
-                kind: Kind::Data,
-                byte: 0,
-            },
-            Reading::Like(code) => code,
-            Reading::Unlike(code) => code,
+            Reading::Refused => None,
+            Reading::Like(code) | Reading::Unlike(code) => Some(code),
         }
     }
 
@@ -91,28 +88,18 @@ impl Readings {
         self.first.weight(1) + self.second.weight(2) + self.third.weight(4) + self.fourth.weight(8)
     }
 
-    // Whether no character is refused.
-    pub fn is_good(self) -> bool
-        ensures { result ≡ is_good self }
+    // The dword that four good characters make; with a refused one there is none.
+    pub fn dword(self) -> Option<Dword>
+        ensures { result ≡ (if is_good self then Some (dword self) else None) }
     {
-        !self.first.is_refused()
-            && !self.second.is_refused()
-            && !self.third.is_refused()
-            && !self.fourth.is_refused()
-    }
-
-    // The dword that four good characters make.
-    pub fn dword(self) -> Dword
-        ensures { result ≡ dword self }
-    {
-        let first = self.first.code();
-        Dword {
+        let first = self.first.code()?;
+        Some(Dword {
             kind: first.kind.into(),
             b0: first.byte,
-            b1: self.second.code().byte,
-            b2: self.third.code().byte,
-            b3: self.fourth.code().byte,
-        }
+            b1: self.second.code()?.byte,
+            b2: self.third.code()?.byte,
+            b3: self.fourth.code()?.byte,
+        })
     }
 
     // What the first character that says something says.

@@ -3,6 +3,8 @@ ghost use Rattle.std.specs.Prelude.{◌^◌, ◌<◌, ◌≤◌};
 
 use crate::state::State;
 
+mod closing;
+mod framing;
 pub mod hearing;
 
 #[derive(Drop)]

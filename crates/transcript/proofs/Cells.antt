@@ -2,10 +2,10 @@
 use Rattle.std.proofs.Common.{◌≡◌, ℕ, zero, suc, ◌+◌, ◌*◌, ◌/◌, ◌%◌, ◌^◌, ◌<◌, ◌≤◌, min, Bool, true, false, cond, not, eqb, List, [], ◌∷◌, ◌++◌, length, get_or, take, drop, sym, refl, ap, ◌∙◌, subst, inl, inr, arith, length-drop, length-take, get_or-drop, get_or-take}
 use lib.ListN.{get_or-append}
 use Rattle.std.proofs.lemmas.List.{take_all}
-use Rattle.std.proofs.lemmas.Bool.{cases_Bool, cases_eq, both_ways}
+use Rattle.std.proofs.lemmas.Bool.{cases_Bool, cases_eq}
 use Rattle.link.specs.declared.dword.Dword.{Dword}
 use Rattle.link.specs.declared.state.Ledger.{Ledger}
-use Rattle.link.specs.declared.state.Closing.{Closing}
+use Rattle.link.specs.Hearing.{Closing, settlement, handed_out, reported}
 use Rattle.link.specs.declared.heard.BadDword.{BadDword}
 use Rattle.link.specs.declared.heard.Heard.{Heard}
 use Rattle.link.specs.declared.heard.Heard.TheVariants.{Bad}
@@ -15,12 +15,11 @@ use Rattle.link.specs.Sending.{stream, dword_bits, disparity_after}
 use Rattle.link.specs.declared.reading.Readings.{Readings}
 use Rattle.link.specs.declared.reading.Reading.{Reading}
 use Rattle.link.specs.declared.reading.Reading.TheVariants.{Refused}
-use Rattle.link.specs.Readings.{is_refused, is_good, mask, verdict}
-use Rattle.link.specs.Hearing.{settlement, handed_out, reported}
+use Rattle.link.specs.Readings.{is_good, mask, verdict}
 use Rattle.transcript.specs.Laws.{kind_at, byte_at}
 use Rattle.transcript.proofs.HandedOut.{alike_take}
 use Rattle.transcript.proofs.Track.{Cell, Nth, here, there}
-use Rattle.transcript.proofs.Vouching.{Pair, replies, closes_good, closes_bad, good_parts}
+use Rattle.transcript.proofs.Vouching.{Pair, replies, closes_bad, ending, ends_good, ends_lost, ends_bad}
 use Rattle.transcript.proofs.Spacing.{Sym, Differ, char, code_bits, cells_of, same?, same_of, same_true, e_end}
 use Rattle.transcript.proofs.Dwords.{syms, drop4, drop4_is, length_drop4, pair, pairs, all_cells, code_dword}
 use Rattle.transcript.proofs.DwordAnswers.{nth_cons}
@@ -106,7 +105,7 @@ first_says d e w ws x r c long lt nth =
     (subst (λ b. Says c x b (10 * r)) (code_dword d w) (says_at (syms w) 0 d e x (omega arith) nth)))
 
 pub cell_at : (vs : List Dword) (d e : ℕ) (x : List ℕ) (j r : ℕ) → j < length vs → r < 4 → 40 * length vs ≤ length x → CellAt d e vs x j r
-cell_at [] d e x j r lt lr long = absurd (let z : ⊥ = omega arith in z)
+cell_at [] d e x j r lt lr long = absurd (omega arith)
 cell_at (w ∷ ws) d e x zero zero lt lr long =
     record { cell = _; nth = here; says = first_says d e w ws x 0 _ (omega arith) lr here; w = w; nth_w = here; kind_is = refl; byte_is = refl; in_pair = pair e w x; nth_pair = here; judged_is = refl }
 cell_at (w ∷ ws) d e x zero (suc zero) lt lr long =
@@ -115,7 +114,7 @@ cell_at (w ∷ ws) d e x zero (suc (suc zero)) lt lr long =
     record { cell = _; nth = there (there here); says = first_says d e w ws x 2 _ (omega arith) lr (there (there here)); w = w; nth_w = here; kind_is = refl; byte_is = refl; in_pair = pair e w x; nth_pair = here; judged_is = refl }
 cell_at (w ∷ ws) d e x zero (suc (suc (suc zero))) lt lr long =
     record { cell = _; nth = there (there (there here)); says = first_says d e w ws x 3 _ (omega arith) lr (there (there (there here))); w = w; nth_w = here; kind_is = refl; byte_is = refl; in_pair = pair e w x; nth_pair = here; judged_is = refl }
-cell_at (w ∷ ws) d e x zero (suc (suc (suc (suc r)))) lt lr long = absurd (let z : ⊥ = omega arith in z)
+cell_at (w ∷ ws) d e x zero (suc (suc (suc (suc r)))) lt lr long = absurd (omega arith)
 cell_at (w ∷ ws) d e x (suc j) r lt lr long =
     let ih = cell_at ws (disparity_after d w) (e_end e (syms w) x) (drop4 x) j r (omega arith) lr (omega (arith, length_drop4 x)) in
     record {
@@ -132,47 +131,20 @@ cell_at (w ∷ ws) d e x (suc j) r lt lr long =
       judged_is = ih.judged_is;
     }
 
-times : (b : Bool) (w : ℕ) → cond b w 0 ≡ w * cond b 1 0
-times true w = omega arith
-times false w = omega arith
-
-one_or_none : (b : Bool) → cond {A = ℕ} b 1 0 < 2
-one_or_none true = omega arith
-one_or_none false = omega arith
-
 -- a refused place is in the mask
 pub mask_bit : (j : Readings) (r : ℕ) → r < 4 → reading_at r j ≡ Refused → mask j / (2 ^ r) % 2 ≡ 1
-mask_bit j r lt is =
-    let b₀ = is_refused j.first in let b₁ = is_refused j.second in let b₂ = is_refused j.third in let b₃ = is_refused j.fourth in
-    let n₀ : ℕ = cond b₀ 1 0 in let n₁ : ℕ = cond b₁ 1 0 in let n₂ : ℕ = cond b₂ 1 0 in let n₃ : ℕ = cond b₃ 1 0 in
-    let e : mask j ≡ ((n₀ + 2 * n₁) + 4 * n₂) + 8 * n₃ = rw (times b₁ 2, times b₂ 4, times b₃ 8) refl in
-    ap (λ m. m / (2 ^ r) % 2) e ∙ at r lt n₀ n₁ n₂ n₃ (one_or_none b₀) (one_or_none b₁) (one_or_none b₂) (one_or_none b₃)
-    (λ z. ap (λ b. cond {A = ℕ} b 1 0) (ap is_refused (sym (ap (λ i. reading_at i j) z) ∙ is)))
-    (λ z. ap (λ b. cond {A = ℕ} b 1 0) (ap is_refused (sym (ap (λ i. reading_at i j) z) ∙ is)))
-    (λ z. ap (λ b. cond {A = ℕ} b 1 0) (ap is_refused (sym (ap (λ i. reading_at i j) z) ∙ is)))
-    (λ z. ap (λ b. cond {A = ℕ} b 1 0) (ap is_refused (sym (ap (λ i. reading_at i j) z) ∙ is)))
-  where
-    at : (r : ℕ) → r < 4 → (n₀ n₁ n₂ n₃ : ℕ) → n₀ < 2 → n₁ < 2 → n₂ < 2 → n₃ < 2 → (r ≡ 0 → n₀ ≡ 1) → (r ≡ 1 → n₁ ≡ 1) → (r ≡ 2 → n₂ ≡ 1) → (r ≡ 3 → n₃ ≡ 1) →
-        (((n₀ + 2 * n₁) + 4 * n₂) + 8 * n₃) / (2 ^ r) % 2 ≡ 1
-    at zero lt n₀ n₁ n₂ n₃ h₀ h₁ h₂ h₃ f₀ f₁ f₂ f₃ = let o = f₀ refl in omega arith
-    at (suc zero) lt n₀ n₁ n₂ n₃ h₀ h₁ h₂ h₃ f₀ f₁ f₂ f₃ = let o = f₁ refl in omega arith
-    at (suc (suc zero)) lt n₀ n₁ n₂ n₃ h₀ h₁ h₂ h₃ f₀ f₁ f₂ f₃ = let o = f₂ refl in omega arith
-    at (suc (suc (suc zero))) lt n₀ n₁ n₂ n₃ h₀ h₁ h₂ h₃ f₀ f₁ f₂ f₃ = let o = f₃ refl in omega arith
-    at (suc (suc (suc (suc r)))) lt n₀ n₁ n₂ n₃ h₀ h₁ h₂ h₃ f₀ f₁ f₂ f₃ = absurd (let z : ⊥ = omega arith in z)
+mask_bit j zero lt is = grind arith
+mask_bit j (suc zero) lt is = grind arith
+mask_bit j (suc (suc zero)) lt is = grind arith
+mask_bit j (suc (suc (suc zero))) lt is = grind arith
+mask_bit j (suc (suc (suc (suc r)))) lt is = absurd (omega arith)
 
 -- and makes the dword bad
 pub refused_bad : (j : Readings) (r : ℕ) → reading_at r j ≡ Refused → is_good j ≡ false
-refused_bad j r is = elim (cases_Bool (is_good j)) [
-  | inr b ↦ b
-  | inl g ↦ let p = good_parts j g in absurd (both_ways (is_refused (reading_at r j)) (at r p.0 p.1 p.2 p.3) (ap is_refused is))
-]
-  where
-    at : (r : ℕ) → is_refused j.first ≡ false → is_refused j.second ≡ false → is_refused j.third ≡ false → is_refused j.fourth ≡ false
-        → is_refused (reading_at r j) ≡ false
-    at zero a b c d = a
-    at (suc zero) a b c d = b
-    at (suc (suc zero)) a b c d = c
-    at (suc (suc (suc r))) a b c d = d
+refused_bad j zero is = grind arith
+refused_bad j (suc zero) is = grind arith
+refused_bad j (suc (suc zero)) is = grind arith
+refused_bad j (suc (suc (suc r))) is = grind arith
 
 -- a bad dword is reported with its mask
 pub record Reported (a : Heard) (m : ℕ) : Type 0 where
@@ -190,37 +162,35 @@ reported_here y₀ y l lost same is =
 
 pub reply_bad : (ps : List Pair) (l : Ledger) {j : ℕ} {a : Heard} {y : Pair} → Nth (replies l ps) j a → Nth ps j y → is_good y.judged_as ≡ false
     → Reported a (mask y.judged_as)
-reply_bad [] l nth ny bad = elim nth [ ]
-reply_bad (y₀ ∷ ps) l {j} {a} {y} nth ny bad =
+reply_bad [] l nth ny refused = elim nth [ ]
+reply_bad (y₀ ∷ ps) l {j} {a} {y} nth ny refused =
     let g = y₀.judged_as in
     let on : Closing → Type 0 = λ c. Nth (c.heard ∷ cond c.ledger.synced (replies c.ledger ps) []) j a in
     elim (nth_cons ny) [
       | inl here-y ↦
           let same = here-y.1 in
           let z = here-y.0 in
-          let bad₀ : is_good g ≡ false = subst (λ v. is_good v.judged_as ≡ false) same bad in
+          let bad₀ : is_good g ≡ false = subst (λ v. is_good v.judged_as ≡ false) same refused in
           elim (nth_cons (subst on (closes_bad g l (eqb l.debt 3) bad₀ refl) nth)) [
             | inl q ↦ reported_here y₀ y l (eqb l.debt 3) same q.1
-            | inr q ↦ absurd (let w : ⊥ = omega (arith, q.1.0) in w)
+            | inr q ↦ absurd (omega (arith, q.1.0))
           ]
       | inr later-y ↦
           let n = later-y.0 in
           let z = later-y.1.0 in
           let place : (i : ℕ) → j ≡ suc i → Nth ps i y = λ i e. subst (λ k. Nth ps k y) (let w : n ≡ i = omega arith in w) later-y.1.1 in
-          elim (cases_Bool (is_good g)) [
-            | inl good ↦ elim (nth_cons (subst on (closes_good g l good) nth)) [
-              | inl q ↦ absurd (let w : ⊥ = omega (arith, q.0) in w)
-              | inr q ↦ reply_bad ps (handed_out g l).ledger q.1.1 (place q.0 q.1.0) bad
+          elim (ending g l) [
+            | ends_good g' e ↦ elim (nth_cons (subst on e nth)) [
+              | inl q ↦ absurd (omega (arith, q.0))
+              | inr q ↦ reply_bad ps (handed_out g l).ledger q.1.1 (place q.0 q.1.0) refused
             ]
-            | inr b ↦ elim (cases_Bool (eqb l.debt 3)) [
-              | inl f ↦ elim (nth_cons (subst on (closes_bad g l true b f) nth)) [
-                | inl q ↦ absurd (let w : ⊥ = omega (arith, q.0) in w)
-                | inr q ↦ elim q.1.1 [ ]
-              ]
-              | inr f ↦ elim (nth_cons (subst on (closes_bad g l false b f) nth)) [
-                | inl q ↦ absurd (let w : ⊥ = omega (arith, q.0) in w)
-                | inr q ↦ reply_bad ps (reported g l false).ledger q.1.1 (place q.0 q.1.0) bad
-              ]
+            | ends_lost e ↦ elim (nth_cons (subst on e nth)) [
+              | inl q ↦ absurd (omega (arith, q.0))
+              | inr q ↦ elim q.1.1 [ ]
+            ]
+            | ends_bad e ↦ elim (nth_cons (subst on e nth)) [
+              | inl q ↦ absurd (omega (arith, q.0))
+              | inr q ↦ reply_bad ps (reported g l false).ledger q.1.1 (place q.0 q.1.0) refused
             ]
           ]
     ]

@@ -1,36 +1,33 @@
 -- The answers in sync, one dword every forty bits.
-use Rattle.std.proofs.Common.{◌≡◌, ℕ, zero, suc, ◌+◌, ◌*◌, ◌<◌, ◌≤◌, true, false, cond, eqb, ◌⊎◌, List, [], ◌∷◌, ◌++◌, length, take, drop, sym, refl, ap, ◌∙◌, subst, inl, inr, append-nil, arith, length-append, length-drop, take-append-drop}
+use Rattle.std.proofs.Common.{◌≡◌, ℕ, zero, suc, ◌+◌, ◌*◌, ◌<◌, ◌≤◌, true, false, cond, ◌⊎◌, List, [], ◌∷◌, ◌++◌, length, take, drop, sym, refl, ap, ◌∙◌, subst, inl, inr, append-nil, arith, length-append, length-drop, take-append-drop}
 use lib.ListN.{length-replicate}
-use Rattle.std.proofs.lemmas.Bool.{cases_Bool}
 use Rattle.link.specs.declared.dword.Dword.{Dword}
 use Rattle.link.specs.declared.state.Ledger.{Ledger}
-use Rattle.link.specs.declared.state.Closing.{Closing}
+use Rattle.link.specs.Hearing.{Closing, in_sync, handed_out, reported, after_dword}
 use Rattle.link.specs.declared.heard.Heard.{Heard}
 use Rattle.link.specs.declared.heard.Heard.TheVariants.{More}
 use Rattle.transcript.proofs.Bits.{number}
 use Rattle.link.specs.declared.reading.Readings.{Readings}
 use Rattle.transcript.proofs.Running.{readings_of, after_four, said, mores, at_start, Ten, ten_bits, said_part, said_dword}
-use Rattle.link.specs.Readings.{is_good}
 use Rattle.transcript.specs.Laws.{until_lost}
 use Rattle.link.specs.declared.reading.Reading.TheVariants.{Refused}
-use Rattle.link.specs.Hearing.{in_sync, handed_out, reported, after_dword}
 use Rattle.transcript.proofs.Track.{Nth, here, there}
-use Rattle.transcript.proofs.Vouching.{replies, closes_good, closes_bad}
+use Rattle.transcript.proofs.Vouching.{replies, ending, ends_good, ends_lost, ends_bad}
 use Rattle.transcript.proofs.Spacing.{e_end}
 use Rattle.transcript.proofs.Dwords.{syms, drop4, length_drop4, pairs}
 
 ten_take : (x : List ℕ) → 10 ≤ length x → Ten (take 10 x)
 ten_take (a ∷ b ∷ c ∷ d ∷ e ∷ i ∷ f ∷ g ∷ h ∷ j ∷ x) l = ten_bits a b c d e i f g h j
-ten_take [] l = absurd (let z : ⊥ = omega arith in z)
-ten_take (a ∷ []) l = absurd (let z : ⊥ = omega arith in z)
-ten_take (a ∷ b ∷ []) l = absurd (let z : ⊥ = omega arith in z)
-ten_take (a ∷ b ∷ c ∷ []) l = absurd (let z : ⊥ = omega arith in z)
-ten_take (a ∷ b ∷ c ∷ d ∷ []) l = absurd (let z : ⊥ = omega arith in z)
-ten_take (a ∷ b ∷ c ∷ d ∷ e ∷ []) l = absurd (let z : ⊥ = omega arith in z)
-ten_take (a ∷ b ∷ c ∷ d ∷ e ∷ i ∷ []) l = absurd (let z : ⊥ = omega arith in z)
-ten_take (a ∷ b ∷ c ∷ d ∷ e ∷ i ∷ f ∷ []) l = absurd (let z : ⊥ = omega arith in z)
-ten_take (a ∷ b ∷ c ∷ d ∷ e ∷ i ∷ f ∷ g ∷ []) l = absurd (let z : ⊥ = omega arith in z)
-ten_take (a ∷ b ∷ c ∷ d ∷ e ∷ i ∷ f ∷ g ∷ h ∷ []) l = absurd (let z : ⊥ = omega arith in z)
+ten_take [] l = absurd (omega arith)
+ten_take (a ∷ []) l = absurd (omega arith)
+ten_take (a ∷ b ∷ []) l = absurd (omega arith)
+ten_take (a ∷ b ∷ c ∷ []) l = absurd (omega arith)
+ten_take (a ∷ b ∷ c ∷ d ∷ []) l = absurd (omega arith)
+ten_take (a ∷ b ∷ c ∷ d ∷ e ∷ []) l = absurd (omega arith)
+ten_take (a ∷ b ∷ c ∷ d ∷ e ∷ i ∷ []) l = absurd (omega arith)
+ten_take (a ∷ b ∷ c ∷ d ∷ e ∷ i ∷ f ∷ []) l = absurd (omega arith)
+ten_take (a ∷ b ∷ c ∷ d ∷ e ∷ i ∷ f ∷ g ∷ []) l = absurd (omega arith)
+ten_take (a ∷ b ∷ c ∷ d ∷ e ∷ i ∷ f ∷ g ∷ h ∷ []) l = absurd (omega arith)
 
 -- the readings of forty bits, and the disparity after them
 abbrev readings_at : ℕ → List ℕ → Readings
@@ -52,18 +49,6 @@ said_next e l x sy h =
     ap (said (at_start e l)) parts
     ∙ said_dword (ten_take x (omega arith)) (ten_take x₁ (omega (arith, l₁))) (ten_take x₂ (omega (arith, l₁, l₂))) (ten_take x₃ (omega (arith, l₁, l₂, l₃))) (drop4 x) e l
     ∙ rw sy refl
-
--- a dword's end in sync is one of three
-data End (j : Readings) (l : Ledger) : Type 0 where
-  good : in_sync j l ≡ handed_out j l → End j l
-  lost : in_sync j l ≡ reported j l true → End j l
-  bad : in_sync j l ≡ reported j l false → End j l
-
-ending : (j : Readings) (l : Ledger) → End j l
-ending j l = elim (cases_Bool (is_good j)) [
-  | inl g ↦ good (closes_good j l g)
-  | inr b ↦ elim (cases_Bool (eqb l.debt 3)) [ inl f ↦ lost (closes_bad j l true b f) | inr f ↦ bad (closes_bad j l false b f) ]
-]
 
 pub nth_mores : (n i : ℕ) (r : List Heard) (a : Heard) → Nth (mores n ++ r) i a → (a ≡ More) ⊎ ((k : ℕ) × ((i ≡ n + k) × Nth r k a))
 nth_mores zero i r a nth = inr (i, (omega arith, nth))
@@ -101,9 +86,9 @@ next_dword e l w ws x sy h =
     ap until_lost (said_next e l x sy h) ∙ lost_mores 39 ((in_sync j l).heard ∷ said (after_dword (e_after e x) (in_sync j l)).state (drop4 x)) in
     let on : Closing → List Heard = λ c. c.heard ∷ cond c.ledger.synced (replies c.ledger ps) [] in
     elim (ending j l) [
-      | good z ↦ goes (handed_out j l).heard (handed_out j l).ledger refl (s ∙ ap heard_by z) (ap on z)
-      | lost z ↦ stops (reported j l true).heard (s ∙ ap heard_by z) (ap on z)
-      | bad z ↦ goes (reported j l false).heard (reported j l false).ledger refl (s ∙ ap heard_by z) (ap on z)
+      | ends_good g z ↦ goes (handed_out j l).heard (handed_out j l).ledger refl (s ∙ ap heard_by z) (ap on z)
+      | ends_lost z ↦ stops (reported j l true).heard (s ∙ ap heard_by z) (ap on z)
+      | ends_bad z ↦ goes (reported j l false).heard (reported j l false).ledger refl (s ∙ ap heard_by z) (ap on z)
     ]
 
 pub nth_cons : {X : Type 0} {b : X} {later : List X} {k : ℕ} {a : X} → Nth (b ∷ later) k a → ((k ≡ 0) × (a ≡ b)) ⊎ ((n : ℕ) × ((k ≡ suc n) × Nth later n a))
@@ -164,8 +149,8 @@ pub has_reply : (ws : List Dword) (e : ℕ) (l : Ledger) (x : List ℕ) → l.sy
     (j : ℕ) → 40 * j + 40 ≤ length (until_lost (said (at_start e l) x)) → (a : Heard) × Nth (replies l (pairs e ws x)) j a
 has_reply [] e l x sy lo hi j h =
     let z = ap length (ap until_lost (said_part x 0 0 0 Refused Refused Refused e l (omega arith) (omega arith) ∙ sym (append-nil (mores (length x)))) ∙ lost_mores (length x) [] ∙ append-nil (mores (length x))) ∙ length-replicate (length x) More in
-    absurd (let y : ⊥ = omega (arith, z) in y)
+    absurd (omega (arith, z))
 has_reply (w ∷ ws) e l x sy lo hi j h = elim (next_dword e l w ws x sy (omega arith)) [
   | goes b l' sy' s r ↦ block_has _ b _ _ _ s r (has_reply ws _ l' (drop4 x) sy' (omega (arith, length_drop4 x)) (omega (arith, length_drop4 x))) j h
-  | stops b s r ↦ block_has _ b [] _ [] s r (λ j h. absurd (let y : ⊥ = omega arith in y)) j h
+  | stops b s r ↦ block_has _ b [] _ [] s r (λ j h. absurd (omega arith)) j h
 ]

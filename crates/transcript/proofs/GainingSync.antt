@@ -10,10 +10,9 @@ use Rattle.transcript.proofs.Bits.{dword_then}
 use Rattle.link.specs.Hearing.{before_sync}
 use Rattle.transcript.proofs.Running.{readings_of, said, mores, at_start}
 use Rattle.link.specs.Readings.{kind_of, byte_of}
-use Rattle.transcript.specs.Laws.{is_k28_5}
+use Rattle.transcript.specs.Laws.{is_k28_5, AllValid}
 use Rattle.transcript.proofs.Hunting.{Bits, hunting}
 use Rattle.transcript.proofs.Commas.{hunt_past, Follows, goes_on, BitsAppend, BitsStream}
-use Rattle.transcript.specs.Laws.{AllValid}
 use Rattle.transcript.proofs.CleanDwords.{match_dword, said_clean, judged_clean}
 use Rattle.transcript.proofs.InOrder.{early, synced, dword_small, K28_5From, K28_5To, drop_dword}
 

@@ -14,8 +14,8 @@ use Rattle.transcript.proofs.Told.{told, heard_as, heard-bits}
 pub alike_take : (m : ℕ) (c p : List ℕ) → length c ≡ length p → ((i : ℕ) → i < m → get_or c i 0 ≡ get_or p i 0) → take m c ≡ take m p
 alike_take zero c p l same = refl
 alike_take (suc m) [] [] l same = refl
-alike_take (suc m) [] (y ∷ p) l same = absurd (let z : ⊥ = omega arith in z)
-alike_take (suc m) (x ∷ c) [] l same = absurd (let z : ⊥ = omega arith in z)
+alike_take (suc m) [] (y ∷ p) l same = absurd (omega arith)
+alike_take (suc m) (x ∷ c) [] l same = absurd (omega arith)
 alike_take (suc m) (x ∷ c) (y ∷ p) l same =
     let e : x ≡ y = same 0 (omega arith) in
     ap (λ r. r ∷ take m c) e ∙ ap (λ r. y ∷ r) (alike_take m c p (omega arith) (λ i h. same (suc i) (omega arith)))

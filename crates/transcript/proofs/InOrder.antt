@@ -10,10 +10,9 @@ use Rattle.transcript.proofs.Bits.{K28_5, length_dword}
 use Rattle.transcript.proofs.Running.{readings_of, said, mores, at_start}
 use Rattle.link.specs.Readings.{kind_of, byte_of}
 use Rattle.link.specs.Hearing.{before_sync}
-use Rattle.transcript.specs.Laws.{Numbered, numbered_from, handed, handed_by, beyond, is_k28_5}
+use Rattle.transcript.specs.Laws.{Numbered, numbered_from, handed, handed_by, beyond, is_k28_5, AllValid}
 use Rattle.transcript.proofs.Hunting.{hunting}
 use Rattle.transcript.proofs.Commas.{hunt_over}
-use Rattle.transcript.specs.Laws.{AllValid}
 use Rattle.transcript.proofs.CleanDwords.{match_dword, said_clean, judged_clean}
 use Rattle.code.proofs.Laws.{disparity_fits}
 
@@ -159,7 +158,7 @@ handed_hunting (w ∷ ws) m k d e (v, vs) h =
           ap (λ xs. handed (take m (said (hunting e (early 0)) xs))) (drop_dword d k w (stream (disparity_after d w) ws) past)
           ∙ later ∙ sym (rw (a, b) refl)
       | inl inside ↦ elim (cases_lt 0 k) [
-        | inl cut ↦ ap (λ xs. handed (take m xs)) (hunt_over e (early 0) d k w ws v vs h inside (λ z. absurd (let n : ⊥ = omega arith in n)))
+        | inl cut ↦ ap (λ xs. handed (take m xs)) (hunt_over e (early 0) d k w ws v vs h inside (λ z. absurd (omega arith)))
             ∙ handed_skip (40 - k) m _ ∙ next_dword ∙ partly w ws m k inside cut
         | inr whole ↦ let z : k ≡ 0 = omega arith in rw z (wholly w ws m d e v vs h (handed_hunting ws (m - 40) 0 (disparity_after d w) e vs h'))
       ]

@@ -8,10 +8,9 @@ use Rattle.link.specs.Hearing.{before_sync}
 use Rattle.transcript.proofs.Running.{readings_of, said, mores, at_start}
 use Rattle.link.specs.Readings.{kind_of, byte_of}
 use Rattle.link.specs.declared.heard.Heard.TheVariants.{More}
-use Rattle.transcript.specs.Laws.{is_k28_5}
+use Rattle.transcript.specs.Laws.{is_k28_5, AllValid}
 use Rattle.transcript.proofs.Hunting.{hunting}
 use Rattle.transcript.proofs.Commas.{hunt_over}
-use Rattle.transcript.specs.Laws.{AllValid}
 use Rattle.transcript.proofs.CleanDwords.{match_dword, said_clean, judged_clean}
 use Rattle.transcript.proofs.InOrder.{early, dword_small, K28_5From, K28_5To, drop_dword}
 use Rattle.transcript.proofs.GainingSync.{Gains, last, counts, skips, Hunts, begins, waits, passes}
@@ -70,8 +69,8 @@ hunts? (w ∷ ws) k = elim (cases_lt k 40) [
     ]
     | inl is-k ↦ elim (cases_lt 0 k) [
       | inl cut ↦ elim (hunts? ws 0) [
-        | inl s ↦ inl (record { front = w ∷ s.front; rest = s.rest; is = ap (λ r. w ∷ r) s.is; holds = waits lt (λ z. absurd (let y : ⊥ = omega arith in y)) s.holds })
-        | inr f ↦ inr (l_waits lt (λ z. absurd (let y : ⊥ = omega arith in y)) f)
+        | inl s ↦ inl (record { front = w ∷ s.front; rest = s.rest; is = ap (λ r. w ∷ r) s.is; holds = waits lt (λ z. absurd (omega arith)) s.holds })
+        | inr f ↦ inr (l_waits lt (λ z. absurd (omega arith)) f)
       ]
       | inr whole ↦ let z : 0 ≡ k = omega arith in elim (gains? ws 1) [
         | inl s ↦ inl (subst (λ n. Split (Hunts n) (w ∷ ws)) z (gains_front w ws is-k s))

@@ -126,7 +126,7 @@ module _ (rs : List Heard) (l : Ledger) (k : Kept rs l) (a : Heard) (m : Ledger)
         count = c.0;
         in_order = c.1;
         within = omega (arith, pend);
-        stretch = λ n lo hi. absurd (let z : ⊥ = omega (arith, pend) in z);
+        stretch = λ n lo hi. absurd (omega (arith, pend));
         vouched = vouched_more rs a k.vouched (λ n h. vouches_old v b.settlement n settles (subst (λ y. VouchedBy y n) is h));
       }
 
@@ -137,10 +137,10 @@ unheard h r e none k = subst (λ xs. Kept xs r.ledger) (sym (ap (λ xs. answers 
 kept-over : {d₀ : ℕ} {h : History} {q : List ℕ} {d : ℕ} {r : State} → Run d₀ h q d r → Kept (answers h) r.ledger
 kept-over starts = record {
   count = refl;
-  in_order = λ i lt. absurd (let z : ⊥ = omega arith in z);
+  in_order = λ i lt. absurd (omega arith);
   within = omega arith;
-  stretch = λ n lo hi. absurd (let z : ⊥ = omega arith in z);
-  vouched = λ j n lt v. absurd (let z : ⊥ = omega arith in z);
+  stretch = λ n lo hi. absurd (omega arith);
+  vouched = λ j n lt v. absurd (omega arith);
 }
 kept-over (sends {h} {q} {d} {r} e w is v run) = unheard h r e (ap (λ y. y.answers) is) (kept-over run)
 kept-over (turns {h} {q} {d} {r} e place is run) = unheard h r e (ap (λ y. y.answers) is) (kept-over run)

@@ -3,15 +3,14 @@ use Rattle.std.proofs.Common.{◌≡◌, ℕ, ◌+◌, ◌*◌, ◌%◌, ◌≤�
 use Rattle.link.specs.declared.heard.GoodDword.{GoodDword}
 use Rattle.link.specs.declared.heard.BadDword.{BadDword}
 use Rattle.link.specs.declared.heard.Heard.{Heard}
-use Rattle.link.specs.declared.heard.Heard.TheVariants.{More, Good, Bad}
+use Rattle.link.specs.declared.heard.Heard.TheVariants.{Dry, More, Slip, Gained, Good, Bad}
 use Rattle.link.specs.declared.reading.Verdict.{Verdict}
 use Rattle.link.specs.declared.reading.Readings.{Readings}
 use Rattle.link.specs.declared.state.Ledger.{Ledger}
 use Rattle.link.specs.declared.state.State.{State}
-use Rattle.link.specs.declared.state.Hearing.{Hearing}
-use Rattle.link.specs.declared.state.Closing.{Closing}
+use Rattle.link.specs.Hearing.{Hearing, Closing, hearing, completed, closing, before_sync, is_k28_5, readings_with, settlement, still_pending}
 use Rattle.link.specs.Readings.{is_good, verdict}
-use Rattle.link.specs.Hearing.{hearing, completed, closing, before_sync, is_k28_5, readings_with, settlement, still_pending}
+use Rattle.link.proofs.Hearings.{never_dry}
 use Rattle.transcript.specs.History.{heard_deed, hearing_deed}
 use Rattle.transcript.specs.Answering.{numbers_by}
 use Rattle.transcript.specs.Laws.{VouchedBy}
@@ -25,21 +24,16 @@ either_way P false x y p q = q
 abbrev Tells : Heard → Type 0
 Tells a = heard_deed a ≡ hearing_deed a
 
-closing_tells : (r : Readings) (l : Ledger) → Tells (closing r l).heard
-unfolding before_sync
-closing_tells r l =
-    let P : Closing → Type 0 = λ c. Tells c.heard in
-    either_way P l.synced _ _
-    (either_way P (is_good r) _ _ refl refl)
-    (either_way P (is_good r) _ _ (either_way P (is_k28_5 r) _ _ (either_way P (eqb l.count 2) _ _ refl refl) refl) refl)
+by_answer : (a : Heard) → (a ≡ Dry → ⊥) → Tells a
+by_answer Dry told = absurd (told refl)
+by_answer More told = refl
+by_answer Slip told = refl
+by_answer Gained told = refl
+by_answer (Good g) told = refl
+by_answer (Bad b) told = refl
 
 pub hearing_tells : (s : State) (b : ℕ) → Tells (hearing s b).heard
-unfolding hearing completed
-hearing_tells s b =
-    let P : Hearing → Type 0 = λ x. Tells x.heard in
-    either_way P s.framing.hunting _ _ refl
-    (either_way P (ltb s.framing.held 9) _ _ refl
-    (either_way P (ltb s.framing.place 3) _ _ refl (closing_tells (readings_with s (s.framing.loose * 2 + b)) s.ledger)))
+hearing_tells s b = by_answer (hearing s b).heard (never_dry s b)
 
 -- ---- numbers and the open stretch
 

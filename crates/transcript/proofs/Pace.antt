@@ -6,10 +6,8 @@ use Rattle.link.specs.declared.heard.Heard.TheVariants.{Dry, More, Gained}
 use Rattle.link.specs.declared.reading.Readings.{Readings}
 use Rattle.link.specs.declared.state.Ledger.{Ledger}
 use Rattle.link.specs.declared.state.State.{State}
-use Rattle.link.specs.declared.state.Hearing.{Hearing}
-use Rattle.link.specs.declared.state.Closing.{Closing}
+use Rattle.link.specs.Hearing.{Hearing, Closing, hearing, completed, fresh, in_sync, handed_out, reported, closing, before_sync, is_k28_5, readings_with, after_dword}
 use Rattle.link.specs.Readings.{is_good}
-use Rattle.link.specs.Hearing.{hearing, completed, fresh, in_sync, handed_out, reported, closing, before_sync, is_k28_5, readings_with, after_dword}
 use Rattle.code.specs.Characters.{after}
 use Rattle.transcript.specs.Answering.{numbers_by, heard}
 use Rattle.transcript.specs.Laws.{until_lost, EveryFortyBits, kept}
@@ -52,15 +50,15 @@ module _ (d : ℕ) (r : Readings) (l : Ledger) (bits number : ℕ) (full : bits 
 
   -- a bad dword, by whether it loses sync
   reported_beat : (lost : Bool) → Beat bits number (after_dword d (reported r l lost))
-  reported_beat true = loses full (λ e. let z : ◌≡◌ {A = ℕ} 0 1 = cc in omega arith) (ap (λ n. n ∷ []) next) (λ later. refl)
-  reported_beat false = ended (reported r l false) (λ e. let z : ◌≡◌ {A = ℕ} 0 1 = cc in omega arith) refl (λ later. refl) refl refl refl
+  reported_beat true = loses full (λ e. cc) (ap (λ n. n ∷ []) next) (λ later. refl)
+  reported_beat false = ended (reported r l false) (λ e. cc) refl (λ later. refl) refl refl refl
 
   closed_beat : l.synced ≡ true → Beat bits number (after_dword d (closing r l))
   closed_beat synced =
       let P : Closing → Type 0 = λ c. Beat bits number (after_dword d c) in
       subst P (sym (cond-true l.synced (in_sync r l) (before_sync r l) synced))
       (either_way P (is_good r) _ _
-      (ended (handed_out r l) (λ e. let z : ◌≡◌ {A = ℕ} 0 1 = cc in omega arith) refl (λ later. refl) refl refl refl)
+      (ended (handed_out r l) (λ e. cc) refl (λ later. refl) refl refl refl)
       (reported_beat (eqb l.debt 3)))
 
 hearing_beat : (s : State) (bits number b : ℕ) → InSync s bits number → Beat bits number (hearing s b)
@@ -102,7 +100,7 @@ in_step (b ∷ bits) s k number sync i a nth =
     elim (hearing_beat s k number b sync) [
       | on more next ↦ elim (nth_cons (subst (λ y. Nth (until_lost (y ∷ rest)) i a) more nth)) [
         | inl z ↦
-            (λ g. (let e = z.1 in let w : ◌≡◌ {A = ℕ} 0 1 = cc in omega arith), λ n num. absurd (no_number a n (ap numbers_by z.1) num))
+            (λ g. (let e = z.1 in cc), λ n num. absurd (no_number a n (ap numbers_by z.1) num))
         | inr z ↦
             let later = in_step bits x.state (k + 1) number next z.0 a z.1.1 in
             (later.0, λ n num. omega (arith, z.1.0, later.1 n num))
@@ -136,7 +134,7 @@ data Waits (x : Hearing) : Type 0 where
 
 -- more, with the ledger as it was
 quiet : (t : State) → Early t → Waits (record { state = t; heard = More })
-quiet t e = waits (λ g. let z : ◌≡◌ {A = ℕ} 0 1 = cc in omega arith) refl (λ later. refl) e
+quiet t e = waits (λ g. cc) refl (λ later. refl) e
 
 closed_early : (d : ℕ) (r : Readings) (l : Ledger) → l.synced ≡ false → l.number ≡ 0 → Waits (after_dword d (closing r l))
 unfolding before_sync
@@ -149,7 +147,7 @@ closed_early d r l un none =
     (gains refl (record { frames = refl; synced = refl; few = omega arith; place = omega arith; into = refl; numbers = none }))
     (quiet _ (record { unsynced = refl; none = none })))
     (quiet _ (record { unsynced = un; none = none })))
-    (waits (λ g. let z : ◌≡◌ {A = ℕ} 0 1 = cc in omega arith) refl (λ later. refl) (record { unsynced = refl; none = none })))
+    (waits (λ g. cc) refl (λ later. refl) (record { unsynced = refl; none = none })))
 
 early_hearing : (s : State) (b : ℕ) → Early s → Waits (hearing s b)
 unfolding hearing completed

@@ -1,18 +1,15 @@
 -- What stands at a place, and the answers until sync is lost.
-use Rattle.std.proofs.Common.{◌≡◌, ℕ, zero, suc, ◌+◌, ◌<◌, ◌≤◌, Bool, true, false, cond, eqb, List, [], ◌∷◌, ◌++◌, length, get_or, take, sym, refl, ap, subst, inl, inr, arith, length-take}
-use Rattle.std.proofs.lemmas.Bool.{cases_Bool}
+use Rattle.std.proofs.Common.{◌≡◌, ℕ, zero, suc, ◌+◌, ◌<◌, ◌≤◌, Bool, true, false, cond, List, [], ◌∷◌, ◌++◌, length, get_or, take, sym, refl, ap, subst, inl, inr, arith, length-take}
 use Rattle.link.specs.declared.dword.Dword.{Dword}
 use Rattle.link.specs.declared.state.Ledger.{Ledger}
-use Rattle.link.specs.declared.state.Closing.{Closing}
+use Rattle.link.specs.Hearing.{Closing, settlement, handed_out, reported}
 use Rattle.link.specs.declared.heard.Heard.{Heard}
 use Rattle.link.specs.declared.heard.Heard.TheVariants.{Dry, More, Slip, Gained, Good, Bad}
-use Rattle.link.specs.Readings.{dword, is_good, verdict}
-use Rattle.link.specs.Hearing.{settlement, handed_out, reported}
+use Rattle.link.specs.Readings.{dword, verdict}
 use Rattle.link.specs.declared.heard.GoodDword.{GoodDword}
-use Rattle.link.specs.declared.heard.BadDword.{BadDword}
 use Rattle.transcript.specs.Laws.{until_lost}
 use Rattle.transcript.proofs.Track.{Nth, here, there}
-use Rattle.transcript.proofs.Vouching.{Pair, replies, closes_good, closes_bad}
+use Rattle.transcript.proofs.Vouching.{Pair, replies, ending, ends_good, ends_lost, ends_bad}
 use Rattle.transcript.proofs.Spacing.{e_end}
 use Rattle.transcript.proofs.Dwords.{syms, drop4, pairs}
 use Rattle.transcript.proofs.DwordAnswers.{nth_cons}
@@ -22,7 +19,7 @@ nth_get z here = (omega arith, refl)
 nth_get z (there n) = let q = nth_get z n in (omega (arith, q.0), q.1)
 
 pub get_nth : {X : Type 0} (z : X) (xs : List X) (i : ℕ) {a : X} → i < length xs → get_or xs i z ≡ a → Nth xs i a
-get_nth z [] i h e = absurd (let y : ⊥ = omega arith in y)
+get_nth z [] i h e = absurd (omega arith)
 get_nth z (x ∷ xs) zero h e = subst (λ a. Nth (x ∷ xs) 0 a) e here
 get_nth z (x ∷ xs) (suc i) h e = there (get_nth z xs i (omega arith) e)
 
@@ -76,10 +73,6 @@ lost_again (Gained ∷ rest) = ap (λ r. Gained ∷ r) (lost_again rest)
 lost_again (Good g ∷ rest) = ap (λ r. Good g ∷ r) (lost_again rest)
 lost_again (Bad b ∷ rest) = ap (λ r. Bad b ∷ r) (stop_again b.lost (until_lost rest) (lost_again rest))
 
--- no good dword is a bad one
-good_or_bad : (g : GoodDword) (b : BadDword) → Good g ≡ Bad b → ⊥
-good_or_bad g b e = let z : ◌≡◌ {A = ℕ} 0 1 = cc in omega arith
-
 -- a dword handed out in sync has the number of its place
 pub reply_good : (ps : List Pair) (l : Ledger) {j : ℕ} {g : GoodDword} → Nth (replies l ps) j (Good g)
     → (g.number ≡ l.number + j) × ((y : Pair) × (Nth ps j y × (dword y.judged_as ≡ g.dword)))
@@ -87,8 +80,8 @@ reply_good [] l nth = elim nth [ ]
 reply_good (y ∷ ps) l {j} {g} nth =
     let r = y.judged_as in
     let on : Closing → Type 0 = λ c. Nth (c.heard ∷ cond c.ledger.synced (replies c.ledger ps) []) j (Good g) in
-    elim (cases_Bool (is_good r)) [
-      | inl good ↦ elim (nth_cons (subst on (closes_good r l good) nth)) [
+    elim (ending r l) [
+      | ends_good g' e ↦ elim (nth_cons (subst on e nth)) [
         | inl z ↦
             let e = z.1 in
             let same : g ≡ record { settlement = settlement (verdict r) l; number = l.number; dword = dword r } = cc in
@@ -98,16 +91,14 @@ reply_good (y ∷ ps) l {j} {g} nth =
             let q = reply_good ps (handed_out r l).ledger z.1.1 in
             (omega (arith, z.1.0, q.0), (q.1.0, (subst (λ i. Nth (y ∷ ps) i q.1.0) (sym z.1.0) (there q.1.1.0), q.1.1.1)))
       ]
-      | inr b ↦ elim (cases_Bool (eqb l.debt 3)) [
-        | inl f ↦ elim (nth_cons (subst on (closes_bad r l true b f) nth)) [
-          | inl z ↦ absurd (good_or_bad g _ z.1)
-          | inr z ↦ elim z.1.1 [ ]
-        ]
-        | inr f ↦ elim (nth_cons (subst on (closes_bad r l false b f) nth)) [
-          | inl z ↦ absurd (good_or_bad g _ z.1)
-          | inr z ↦
-              let q = reply_good ps (reported r l false).ledger z.1.1 in
-              (omega (arith, z.1.0, q.0), (q.1.0, (subst (λ i. Nth (y ∷ ps) i q.1.0) (sym z.1.0) (there q.1.1.0), q.1.1.1)))
-        ]
+      | ends_lost e ↦ elim (nth_cons (subst on e nth)) [
+        | inl z ↦ absurd (cc z.1)
+        | inr z ↦ elim z.1.1 [ ]
+      ]
+      | ends_bad e ↦ elim (nth_cons (subst on e nth)) [
+        | inl z ↦ absurd (cc z.1)
+        | inr z ↦
+            let q = reply_good ps (reported r l false).ledger z.1.1 in
+            (omega (arith, z.1.0, q.0), (q.1.0, (subst (λ i. Nth (y ∷ ps) i q.1.0) (sym z.1.0) (there q.1.1.0), q.1.1.1)))
       ]
     ]

@@ -1,5 +1,5 @@
 -- From the meaning of each call to what it did.
-use Rattle.std.proofs.Common.{◌≡◌, ℕ, ◌+◌, not, ◌&&◌, eqb, ltb, List, [], ◌∷◌, length, Some, None, Ok, Err, Result, sym, refl, ap, ◌∙◌, subst, arith}
+use Rattle.std.proofs.Common.{◌≡◌, ℕ, ◌+◌, not, ◌&&◌, eqb, ltb, List, [], ◌∷◌, length, Some, None, Ok, Err, Result, sym, refl, ap, ◌∙◌, subst}
 use Rattle.code.specs.Bits.{inverted}
 use Rattle.code.specs.Characters.{special}
 use Rattle.code.specs.Refusals.{Refusal}
@@ -25,7 +25,7 @@ use Rattle.transcript.proofs.Runs.{Run, starts, sends, turns, takes, hears, idle
 
 -- an answer is not both
 ok_or_err : {V E : Type 0} {v : V} {e : E} → ◌≡◌ {A = Result V E} (Ok v) (Err e) → ⊥
-ok_or_err e = let z : ◌≡◌ {A = ℕ} 0 1 = cc in omega arith
+ok_or_err e = cc
 
 heard_is : {x y : Heard} → ◌≡◌ {A = Result Heard Refusal} (Ok x) (Ok y) → x ≡ y
 heard_is e = cc

@@ -9,9 +9,8 @@ use Rattle.link.specs.declared.reading.Reading.TheVariants.{Refused}
 use Rattle.link.specs.declared.reading.Readings.{Readings}
 use Rattle.link.specs.declared.state.Ledger.{Ledger}
 use Rattle.link.specs.declared.state.State.{State}
-use Rattle.link.specs.declared.state.Hearing.{Hearing}
+use Rattle.link.specs.Hearing.{Hearing, hearing, completed, closing, in_sync, before_sync, after_dword}
 use Rattle.link.specs.Readings.{reading}
-use Rattle.link.specs.Hearing.{hearing, completed, closing, in_sync, before_sync, after_dword}
 use Rattle.transcript.specs.Answering.{listened}
 use Rattle.transcript.proofs.Bits.{number}
 

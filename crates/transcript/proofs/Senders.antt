@@ -4,9 +4,8 @@ use Rattle.std.proofs.lemmas.List.{take_all}
 use Rattle.link.specs.declared.dword.Dword.{Dword}
 use Rattle.link.specs.Sending.{stream}
 use Rattle.transcript.specs.History.{History, sent}
-use Rattle.transcript.specs.Laws.{Numbered, numbered_from, handed, SendersAgree}
+use Rattle.transcript.specs.Laws.{Numbered, numbered_from, handed, SendersAgree, AllValid}
 use Rattle.transcript.proofs.Running.{said, at_start}
-use Rattle.transcript.specs.Laws.{AllValid}
 use Rattle.transcript.proofs.InOrder.{handed_synced, synced}
 
 abbrev dwords : List Numbered → List Dword

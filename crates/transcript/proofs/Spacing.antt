@@ -33,8 +33,8 @@ differ_inside x y i n lx ly df = elim (cases_lt i n) [
 pub one_apart : (x y : List ℕ) → length x ≡ length y → Bits x → Bits y → ((i j : ℕ) → i < j → Differ x y i → Differ x y j → ⊥) →
     (x ≡ y) ⊎ ((i : ℕ) × ((i < length y) × (x ≡ turn i y) × Differ x y i))
 one_apart [] [] l bx by one = inl refl
-one_apart [] (b ∷ y) l bx by one = absurd (let z : ⊥ = omega arith in z)
-one_apart (a ∷ x) [] l bx by one = absurd (let z : ⊥ = omega arith in z)
+one_apart [] (b ∷ y) l bx by one = absurd (omega arith)
+one_apart (a ∷ x) [] l bx by one = absurd (omega arith)
 one_apart (a ∷ x) (b ∷ y) l (ba, bx) (bb, by) one =
     joined (cases_eq a b) (one_apart x y (omega arith) bx by (λ i j lt p q. one (suc i) (suc j) (omega arith) p q))
   where

@@ -5,10 +5,9 @@ use Rattle.link.specs.declared.heard.Heard.{Heard}
 use Rattle.link.specs.declared.heard.Heard.TheVariants.{Dry, More, Gained}
 use Rattle.link.specs.declared.state.State.{State}
 use Rattle.link.specs.Sending.{stream, dword_bits, disparity_after, disparity_after_all}
-use Rattle.transcript.specs.Laws.{kind_at, byte_at}
+use Rattle.transcript.specs.Laws.{kind_at, byte_at, AllValid}
 use Rattle.transcript.proofs.Bits.{length_dword}
 use Rattle.transcript.proofs.Running.{said, said_take, mores}
-use Rattle.transcript.specs.Laws.{AllValid}
 use Rattle.transcript.proofs.InOrder.{dword_small}
 use Rattle.transcript.proofs.Track.{Nth, here, there}
 use Rattle.transcript.proofs.Spacing.{Sym}
@@ -28,7 +27,7 @@ same_answer s x y i e =
     sym (get_or-take (suc i) (said s x) i Dry (omega arith)) ∙ ap (λ r. get_or r i Dry) (sym (said_take s (suc i) x) ∙ ap (said s) e ∙ said_take s (suc i) y) ∙ get_or-take (suc i) (said s y) i Dry (omega arith)
 
 pub more_at : (n i : ℕ) (r : List Heard) → i < n → get_or (mores n ++ r) i Dry ≡ More
-more_at zero i r h = absurd (let z : ⊥ = omega arith in z)
+more_at zero i r h = absurd (omega arith)
 more_at (suc n) zero r h = refl
 more_at (suc n) (suc i) r h = more_at n i r (omega arith)
 
@@ -46,10 +45,10 @@ sym_at w (there (there (there (there n)))) = elim n [ ]
 pub drop_alike : (k : ℕ) (x y : List ℕ) → length x ≡ length y → ((i : ℕ) → k ≤ i → i < length x → get_or x i 0 ≡ get_or y i 0) → drop k x ≡ drop k y
 drop_alike zero [] [] l same = refl
 drop_alike (suc k) [] [] l same = refl
-drop_alike zero [] (b ∷ y) l same = absurd (let z : ⊥ = omega arith in z)
-drop_alike (suc k) [] (b ∷ y) l same = absurd (let z : ⊥ = omega arith in z)
-drop_alike zero (a ∷ x) [] l same = absurd (let z : ⊥ = omega arith in z)
-drop_alike (suc k) (a ∷ x) [] l same = absurd (let z : ⊥ = omega arith in z)
+drop_alike zero [] (b ∷ y) l same = absurd (omega arith)
+drop_alike (suc k) [] (b ∷ y) l same = absurd (omega arith)
+drop_alike zero (a ∷ x) [] l same = absurd (omega arith)
+drop_alike (suc k) (a ∷ x) [] l same = absurd (omega arith)
 drop_alike zero (a ∷ x) (b ∷ y) l same =
     let e : a ≡ b = same 0 (omega arith) (omega arith) in
     let es = drop_alike zero x y (omega arith) (λ i p q. same (suc i) (omega arith) (omega arith)) in cc
@@ -79,6 +78,6 @@ mores_at (suc n) (suc i) = mores_at n i
 
 pub no_gain : (n i : ℕ) → get_or (mores n) i Dry ≡ Gained → ⊥
 no_gain n i g = elim (mores_at n i) [
-  | inl m ↦ let z : ◌≡◌ {A = ℕ} 0 1 = cc in omega arith
-  | inr m ↦ let z : ◌≡◌ {A = ℕ} 0 1 = cc in omega arith
+  | inl m ↦ cc
+  | inr m ↦ cc
 ]

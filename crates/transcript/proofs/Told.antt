@@ -157,7 +157,7 @@ module _ (d₀ : ℕ) (small₀ : d₀ < 2) where
       let f = take-set-le (removed h) (carried d₀ h) (removed h + place) (1 - get_or (carried d₀ h) (removed h + place) 0) (omega arith) in
       simp (is, append-nil, add-zero) (record { says = rw f i.says; is = rw f i.is })
   heard_as (takes e b is run) (alone, inl wrong) =
-      let one = ap (λ x. x.takings) is in absurd (let z : ⊥ = omega (arith, one, wrong) in z)
+      let one = ap (λ x. x.takings) is in absurd (omega (arith, one, wrong))
   heard_as (takes e b is run) (alone, inr none) = simp (is, append-nil, add-zero) (take_heard (heard_as run alone) none)
   heard_as (hears e b is run) (alone, _) =
       let t = told d₀ small₀ run in

@@ -137,10 +137,10 @@ apart d e h a b = omega arith
 
 -- at the other disparity no character vouches before one is refused
 pub none_vouches : {d e d'' e'' : ℕ} {p p'' : Bool} {cells : List Cell} → Steps d e p d'' e'' p'' cells → e ≡ 1 - d → verdict_of cells ≡ Some Vouches → ⊥
-none_vouches done wrong says = let z : ◌≡◌ {A = ℕ} 0 1 = cc in omega arith
+none_vouches done wrong says = cc
 none_vouches (more h h' (kept t right reads e) rest) wrong says = apart _ _ h right wrong
 none_vouches (more h h' (blind t w li v e p) rest) wrong says = none_vouches rest e (rw v at says)
-none_vouches (more h h' (caught t w un v e) rest) wrong says = let s = rw v at says in let z : ◌≡◌ {A = ℕ} 0 1 = cc in omega arith
+none_vouches (more h h' (caught t w un v e) rest) wrong says = let s = rw v at says in cc
 none_vouches (more h h' (struck t right v s p) rest) wrong says = apart _ _ h right wrong
 none_vouches (more h h' (slipped t right v e p) rest) wrong says = apart _ _ h right wrong
 
@@ -187,7 +187,7 @@ own_or_later (caught t w un v e) rest is n tells first = absurd (both_ways _ t i
 pub refused_at : {d e d'' e'' : ℕ} {p p'' : Bool} {cells : List Cell} {i u : ℕ} {b c : Cell} → Steps d e p d'' e'' p'' cells → Nth cells i b → b.struck_bit ≡ true →
     i < u → Nth cells u c → Telling c → ((v : ℕ) (x : Cell) → i < v → v < u → Nth cells v x → Telling x → ⊥) → (b.judged_as ≡ Refused) ⊎ (c.judged_as ≡ Refused)
 refused_at done m is lt n tells first = elim m [ ]
-refused_at (more h h' s rest) here is lt here tells first = absurd (let z : ⊥ = omega arith in z)
-refused_at (more h h' s rest) (there m) is lt here tells first = absurd (let z : ⊥ = omega arith in z)
+refused_at (more h h' s rest) here is lt here tells first = absurd (omega arith)
+refused_at (more h h' s rest) (there m) is lt here tells first = absurd (omega arith)
 refused_at (more h h' s rest) here is lt (there n) tells first = own_or_later s rest is n tells (λ i x a nx. first (suc i) x (omega arith) (omega arith) (there nx))
 refused_at (more h h' s rest) (there m) is lt (there n) tells first = refused_at rest m is (omega arith) n tells (λ i x a b nx. first (suc i) x (omega arith) (omega arith) (there nx))

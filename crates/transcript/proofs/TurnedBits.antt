@@ -16,12 +16,11 @@ use Rattle.link.specs.Readings.{dword, mask}
 use Rattle.link.specs.declared.reading.Reading.TheVariants.{Refused}
 use Rattle.transcript.specs.History.{History, sent, skipped, answers, put, carried, HearsAlone}
 use Rattle.transcript.proofs.Runs.{Run}
-use Rattle.transcript.specs.Laws.{TurnedBit, until_lost, kept, kept_end, AnswerAt, Spaced, Clean, UnlikeAt, VouchedBy, VouchedIsSent, SentAt, RefusedAt, NextUnlike, TurnedIsRefused, no_dword, kind_at, byte_at}
+use Rattle.transcript.specs.Laws.{TurnedBit, until_lost, kept, kept_end, AnswerAt, Spaced, Clean, UnlikeAt, VouchedBy, VouchedIsSent, SentAt, RefusedAt, NextUnlike, TurnedIsRefused, no_dword, kind_at, byte_at, AllValid}
 use Rattle.transcript.proofs.Bits.{get_d_past}
 use Rattle.transcript.proofs.Running.{said, said_take, length_said, mores, at_start}
 use Rattle.transcript.proofs.Hunting.{Bits}
 use Rattle.transcript.proofs.Commas.{BitsDrop, BitsStream}
-use Rattle.transcript.specs.Laws.{AllValid}
 use Rattle.transcript.proofs.InOrder.{synced}
 use Rattle.transcript.proofs.Told.{told, heard_as}
 use Rattle.transcript.proofs.HandedOut.{alike_take}
@@ -75,7 +74,7 @@ module _ (d₀ : ℕ) (small₀ : d₀ < 2) (h : History) (q₀ : List ℕ) (d�
   -- no bit is turned before sync is gained, wherever the stream as put would gain it
   pub early_clean : Spaced d₀ h → (end : ℕ) → ((i : ℕ) → k + i + 1 < end → get_or (said fresh (drop k (put d₀ h))) i Dry ≡ Gained → ⊥)
       → (b p : ℕ) → p < b → p < end → T p → ⊥
-  early_clean spaced end quiet zero p lt within t = absurd (let z : ⊥ = omega arith in z)
+  early_clean spaced end quiet zero p lt within t = absurd (omega arith)
   early_clean spaced end quiet (suc b) p lt within (turned, inside) =
       let g = spaced.in_sync p turned inside in
       let i = g.0 in
@@ -124,7 +123,7 @@ module _ (d₀ : ℕ) (small₀ : d₀ < 2) (h : History) (q₀ : List ℕ) (d�
         (λ i w gained.
         let e : get_or (said fresh (drop k (put d₀ h))) i Dry ≡ More =
         ap (λ b. get_or (said fresh (drop k b)) i Dry) put_split ∙ ap (λ r. get_or r i Dry) sh.1.1 ∙ more_at sh.0 i _ (omega (arith, sh.1.0)) in
-        let z : ◌≡◌ {A = ℕ} 0 1 = cc in omega arith)
+        cc)
         (suc p) p (omega arith) lt t
 
     -- while the third has not ended, nothing but more is answered
@@ -204,11 +203,7 @@ module _ (d₀ : ℕ) (small₀ : d₀ < 2) (h : History) (q₀ : List ℕ) (d�
           let g = (nth_sent nj).1 in
           let e₁ : (4 * (length ws₁ + j) + r) / 4 ≡ length ws₁ + j = omega (arith, y.0) in
           let e₂ : (4 * (length ws₁ + j) + r) % 4 ≡ r = omega (arith, y.0) in
-          let P : ℕ → ℕ → Type 0 = λ a b. unlike (kind_at b (get_or (sent h) a no_dword)) (byte_at b (get_or (sent h) a no_dword)) ≡ true in
-          let u₁ = subst (λ a. P a ((4 * (length ws₁ + j) + r) % 4)) e₁ un.1 in
-          let u₂ = subst (λ b. P (length ws₁ + j) b) e₂ u₁ in
-          let u₃ = subst (λ v. unlike (kind_at r v) (byte_at r v) ≡ true) g u₂ in
-          subst (λ b. unlike s.kind b ≡ true) y.2 (subst (λ a. unlike a (byte_at r w) ≡ true) y.1 u₃)
+          cc (un.1, y.1, y.2)
 
       -- a bit heard in sync is a bit carried, and of the stream it is a bit put
       heard_bit : (i : ℕ) → i < 40 * length vs → get_or x i 0 ≡ get_or C (N + i) 0
@@ -267,14 +262,11 @@ module _ (d₀ : ℕ) (small₀ : d₀ < 2) (h : History) (q₀ : List ℕ) (d�
           let l = synced 0 0 0 false 0 in
           let R : ℕ → Type 0 = λ q. (y : Pair) → Nth ps q y → dword y.judged_as ≡ y.sent_as in
           let right : (jj : ℕ) → Nth (replies l ps) jj a → R n = λ jj nj.
-          vouched_right R ps l in_track.track d₁_small (omega arith) (λ e m lo hi. absurd (let z : ⊥ = omega arith in z))
+          vouched_right R ps l in_track.track d₁_small (omega arith) (λ e m lo hi. absurd (omega arith))
           (λ t y nt same y' nt'. let e : y ≡ y' = nth_same nt (subst (λ o. Nth ps o y') (let z : 0 + t ≡ t = omega arith in z) nt') in subst (λ v. dword v.judged_as ≡ v.sent_as) e same)
           jj n a nj vouch in
           elim (sync_answer i (Good g) at_i) [
-            | inl no-dword-here ↦ absurd (elim no-dword-here [
-              | inl e ↦ let z : ◌≡◌ {A = ℕ} 0 1 = cc in omega arith
-              | inr e ↦ let z : ◌≡◌ {A = ℕ} 0 1 = cc in omega arith
-            ])
+            | inl no-dword-here ↦ absurd (elim no-dword-here [ inl e ↦ cc | inr e ↦ cc ])
             | inr at ↦
                 let got = reply_good ps l at.1.1 in
                 let y = got.1.0 in
@@ -333,12 +325,7 @@ module _ (d₀ : ℕ) (small₀ : d₀ < 2) (h : History) (q₀ : List ℕ) (d�
           let s = nth_sent c.nth_w in
           let e₁ : (4 * (a + j) + r) / 4 ≡ a + j = omega arith in
           let e₂ : (4 * (a + j) + r) % 4 ≡ r = omega arith in
-          let g : get_or (sent h) ((4 * (a + j) + r) / 4) no_dword ≡ c.w = ap (λ i. get_or (sent h) i no_dword) e₁ ∙ s.1 in (
-            ap (λ i. unlike (kind_at i (get_or (sent h) ((4 * (a + j) + r) / 4) no_dword)) (byte_at i (get_or (sent h) ((4 * (a + j) + r) / 4) no_dword))) e₂
-                ∙ ap (λ v. unlike (kind_at r v) (byte_at r v)) g
-                ∙ ap (λ t. unlike t (byte_at r c.w)) (sym c.kind_is) ∙ ap (λ t. unlike c.cell.kind t) (sym c.byte_is),
-            omega (arith, e₁, s.0),
-          )
+          (cc (s.1, c.kind_is, c.byte_is), omega (arith, e₁, s.0))
 
       clean_cell : (j r : ℕ) (lj : j < length vs) (lr : r < 4) → Clean d₀ h (4 * (a + j) + r) → (char_cell j r lj lr).cell.struck_bit ≡ false
       clean_cell j r lj lr cl = (char_cell j r lj lr).says.if_clean
@@ -375,14 +362,11 @@ module _ (d₀ : ℕ) (small₀ : d₀ < 2) (h : History) (q₀ : List ℕ) (d�
 
   pub vouched_is_sent : Spaced d₀ h → VouchedIsSent h
   vouched_is_sent spaced i j g a at_i at_j vouch = elim (hunts? (sent h) k) [
-    | inr lacks ↦ elim (never_answers spaced lacks i (Good g) at_i) [
-      | inl e ↦ absurd (let z : ◌≡◌ {A = ℕ} 0 1 = cc in let y : ⊥ = omega arith in y)
-      | inr e ↦ absurd (let z : ◌≡◌ {A = ℕ} 0 1 = cc in let y : ⊥ = omega arith in y)
-    ]
+    | inr lacks ↦ elim (never_answers spaced lacks i (Good g) at_i) [ inl e ↦ absurd (cc) | inr e ↦ absurd (cc) ]
     | inl found ↦ elim (cases_lt (kept_end h) (40 * length found.front)) [
       | inl near ↦
           let e = near_answers spaced found.front found.rest found.is found.holds near i (Good g) at_i in
-          absurd (let z : ◌≡◌ {A = ℕ} 0 1 = cc in let y : ⊥ = omega arith in y)
+          absurd (cc)
       | inr far ↦ vouched_far spaced found.front found.rest found.is found.holds far i j g a at_i at_j vouch
     ]
   ]

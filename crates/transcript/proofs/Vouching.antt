@@ -4,13 +4,12 @@ use Rattle.std.specs.Option.{option_map, option_or}
 use Rattle.std.proofs.lemmas.Bool.{cases_lt, cases_Bool, and_parts, eqb-false, not-true, cond-true, cond-false}
 use Rattle.link.specs.declared.dword.Dword.{Dword}
 use Rattle.link.specs.declared.state.Ledger.{Ledger}
-use Rattle.link.specs.declared.state.Closing.{Closing}
+use Rattle.link.specs.Hearing.{Closing, settlement, settled_by, stretch, still_pending, in_sync, handed_out, reported}
 use Rattle.link.specs.declared.heard.Heard.{Heard}
 use Rattle.link.specs.declared.reading.Readings.{Readings}
 use Rattle.link.specs.Readings.{is_refused, is_good, dword, own_verdict, verdict}
 use Rattle.link.specs.declared.reading.Verdict.{Verdict}
 use Rattle.link.specs.declared.reading.Verdict.TheVariants.{Vouches, Doubts}
-use Rattle.link.specs.Hearing.{settlement, settled_by, stretch, still_pending, in_sync, handed_out, reported}
 use Rattle.transcript.proofs.OneHearing.{either_way}
 use Rattle.transcript.specs.Laws.{VouchedBy, vouched_in}
 use Rattle.transcript.proofs.Track.{Cell, Steps, Status, Goods, AllRead, verdict_of, none_vouches, good_run, Nth, here, there}
@@ -87,12 +86,23 @@ goods_from t₀ t₁ t₂ t₃ x g = let p = good_parts x.judged_as g in (p.0, (
 dword_from : (t₀ t₁ t₂ t₃ : Bool) (x : Pair) → AllRead (four t₀ t₁ t₂ t₃ x) → dword x.judged_as ≡ x.sent_as
 dword_from t₀ t₁ t₂ t₃ x (r₀, (r₁, (r₂, (r₃, _)))) = rw (r₀.kind_is, r₀.byte_is, r₁.byte_is, r₂.byte_is, r₃.byte_is) refl
 
--- the three ways in which a dword ends in sync
-pub closes_good : (j : Readings) (l : Ledger) → is_good j ≡ true → in_sync j l ≡ handed_out j l
+closes_good : (j : Readings) (l : Ledger) → is_good j ≡ true → in_sync j l ≡ handed_out j l
 closes_good j l good = cond-true (is_good j) (handed_out j l) (reported j l (eqb l.debt 3)) good
 
 pub closes_bad : (j : Readings) (l : Ledger) (lost : Bool) → is_good j ≡ false → eqb l.debt 3 ≡ lost → in_sync j l ≡ reported j l lost
 closes_bad j l lost bad debt = cond-false (is_good j) (handed_out j l) (reported j l (eqb l.debt 3)) bad ∙ ap (reported j l) debt
+
+-- a dword's end in sync is one of three
+pub data End (j : Readings) (l : Ledger) : Type 0 where
+  ends_good : is_good j ≡ true → in_sync j l ≡ handed_out j l → End j l
+  ends_lost : in_sync j l ≡ reported j l true → End j l
+  ends_bad : in_sync j l ≡ reported j l false → End j l
+
+pub ending : (j : Readings) (l : Ledger) → End j l
+ending j l = elim (cases_Bool (is_good j)) [
+  | inl g ↦ ends_good g (closes_good j l g)
+  | inr b ↦ elim (cases_Bool (eqb l.debt 3)) [ inl f ↦ ends_lost (closes_bad j l true b f) | inr f ↦ ends_bad (closes_bad j l false b f) ]
+]
 
 module _ (R : ℕ → Type 0) where
   -- every number vouched for satisfies R, if each dword heard as it was sent does
@@ -113,20 +123,18 @@ module _ (R : ℕ → Type 0) where
       let on-from : Closing → Type 0 = λ c. Nth (cond c.ledger.synced (replies c.ledger xs) []) i a in
       let later : (i : ℕ) (y : Pair) → Nth xs i y → dword y.judged_as ≡ y.sent_as → R (l.number + 1 + i) =
       λ i y ny same. subst R (let s : l.number + suc i ≡ l.number + 1 + i = omega arith in s) (all (suc i) y (there ny) same) in
-      elim (cases_Bool (is_good j)) [
-        | inl good ↦
+      elim (ending j l) [
+        | ends_good g e ↦
             let w = verdict j in
             let le = still_le w l.pending in
             vouched_right xs (handed_out j l).ledger track h'' (omega (arith, le))
             (λ right m lo hi.
-            let run = good_run steps h'' (goods_from t₀ t₁ t₂ t₃ x good) right in
+            let run = good_run steps h'' (goods_from t₀ t₁ t₂ t₃ x g) right in
             elim (cases_lt m l.number) [
               | inl lt ↦ stretch-right run.0 m (omega (arith, le)) lt
               | inr ge ↦ subst R (let s : l.number + 0 ≡ m = omega arith in s) (all 0 x here (dword_from t₀ t₁ t₂ t₃ x run.1))
             ])
-            later i n a (subst on-from (closes_good j l good) nth) vouch
-        | inr bad ↦ elim (cases_Bool (eqb l.debt 3)) [
-          | inl fourth ↦ let none = subst on-from (closes_bad j l true bad fourth) nth in elim none [ ]
-          | inr fewer ↦ vouched_right xs (reported j l false).ledger track h'' (omega arith) (λ right m lo hi. absurd (let z : ⊥ = omega arith in z)) later i n a (subst on-from (closes_bad j l false bad fewer) nth) vouch
-        ]
+            later i n a (subst on-from e nth) vouch
+        | ends_lost e ↦ let none = subst on-from e nth in elim none [ ]
+        | ends_bad e ↦ vouched_right xs (reported j l false).ledger track h'' (omega arith) (λ right m lo hi. absurd (omega arith)) later i n a (subst on-from e nth) vouch
       ]

@@ -53,6 +53,8 @@ fn check_room<L: Line>(line: &L) -> Result<(), SendRefusal>
 }
 
 // Puts the character of a code, and answers the disparity after it.
+// Kept: the kind is a number as in its dword, and the disparity is handed on: kept in the sender, each send took longer.
+#[tactic(auto, using(code::proofs::Laws::characters_fit, code::proofs::Laws::disparity_fits, crate::proofs::Puttings::ten_longer))]
 fn put_code<L: Line>(line: &mut L, kind: u8, byte: u8, disparity: u8) -> u8
     requires { (T (valid kind byte)) × ((disparity < 2) × (length (L.Tap.meaning line.old).waiting + 10 ≤ (L.Tap.meaning line.old).capacity)) }
     ensures line { L.Tap.meaning line.new ≡ followed_by (L.Tap.meaning line.old) (bits_of 10 (encoded kind byte disparity)) }
@@ -60,6 +62,7 @@ fn put_code<L: Line>(line: &mut L, kind: u8, byte: u8, disparity: u8) -> u8
     ensures binary { result < 2 }
     ensures longer { length (L.Tap.meaning line.new).waiting ≡ length (L.Tap.meaning line.old).waiting + 10 }
 {
+    // Kept: the code and the room were tested; encoding and putting refuse by number, so no type rules that out.
     let Ok(encoded) = encode(kind, byte, disparity) else {
         unreachable()
     };
@@ -70,6 +73,7 @@ fn put_code<L: Line>(line: &mut L, kind: u8, byte: u8, disparity: u8) -> u8
 }
 
 // Puts the four characters of a dword, and answers the disparity after them.
+#[tactic(auto, using(crate::proofs::Puttings::dword_put))]
 fn put_dword<L: Line>(line: &mut L, dword: Dword, disparity: u8) -> u8
     requires { (T (valid dword.kind dword.b0)) × ((disparity < 2) × (length (L.Tap.meaning line.old).waiting + 40 ≤ (L.Tap.meaning line.old).capacity)) }
     ensures line { L.Tap.meaning line.new ≡ followed_by (L.Tap.meaning line.old) (dword_bits disparity dword) }
