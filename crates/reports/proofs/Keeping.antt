@@ -39,6 +39,7 @@ module _ {T : Type 0} where
   take_both zero m (x ∷ xs) ys e = grind (arith, common_steps)
   take_both (suc n) m (x ∷ xs) ys e = ap (λ (zs : List T). x ∷ zs) (take_both n m xs ys (omega arith))
 
+  -- filling by one list and then another is filling by both
   pub filled_then : (a b c : Queue T) (xs ys : List T) → Filled a xs b → Filled b ys c → Filled a (xs ++ ys) c
   filled_then a b c xs ys p q =
       subst (λ (zs : List T). Kept a zs c) (sym (take_both (room_of a) (room_of b) xs ys p.room)) (kept_then a b c (take (room_of a) xs) (take (room_of b) ys) p q)
