@@ -2,7 +2,7 @@
 // gives one line that says why. A failing read or write, and want of memory, end the program with status 1.
 #![tactic(auto)]
 
-use anyhow::anyhow;
+use anyhow::bail;
 use listening::text::{ListenFault, listen};
 use std::io::Read;
 
@@ -14,7 +14,7 @@ fn run(rt: &HostRuntime) -> anyhow::Result<()> {
     rt.stdin().take(MOST_READ).read_to_end(&mut input)?;
     match listen(&input, rt.alloc()) {
         Ok(text) => print!(rt; "{text}")?,
-        Err(ListenFault::NoMemory) => return Err(anyhow!("no memory")),
+        Err(ListenFault::NoMemory) => bail!("no memory"),
         Err(fault) => println!(rt; "{fault}")?,
     }
     Ok(())

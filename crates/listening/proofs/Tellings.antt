@@ -3,7 +3,6 @@
 use Rattle.std.proofs.Common.{◌≡◌, ℕ, ◌+◌, ◌-◌, ◌<◌, Bool, true, false, cond, eqb, ltb, ◌⊎◌, Some, None, Option, List, [], ◌∷◌, ◌++◌, length, sym, refl, ap, ◌∙◌, subst, ap₂, inl, inr, append-nil, arith, length-append}
 use Rattle.std.proofs.lemmas.Bool.{both_ways, eq-eqb, lt-ltb, eqb-true, cond-true, cond-false, ne_eqb}
 use Rattle.link.specs.declared.heard.Settlement.{Settlement}
-use Rattle.link.specs.declared.heard.Settlement.TheVariants.{Vouched, Doubtful}
 use Rattle.link.specs.declared.heard.BadDword.{BadDword}
 use Rattle.link.specs.declared.heard.Heard.{Heard}
 use Rattle.link.specs.declared.heard.Heard.TheVariants.{Dry, More, Slip, Gained, Good, Bad}
@@ -14,7 +13,7 @@ use Rattle.link.specs.Receiving.{most_numbers}
 use Rattle.reports.specs.declared.report.Report.TheVariants as report
 use Rattle.reports.specs.declared.collecting.Stop.{Stop}
 use Rattle.reports.specs.declared.collecting.Stop.TheVariants as stop
-use Rattle.reports.specs.Shown.{heard_lines, settlement_lines, lost_lines, line, dword_text, report_text}
+use Rattle.reports.specs.Shown.{dword_record, bad_report, settlement_report, heard_lines, settlement_lines, lost_lines, line, dword_text, report_text}
 use Rattle.reports.specs.Collecting.{dwords_of, reports_of, settlement_reports, lost_reports, bad_reports, Collection, stopped, after_one, collected}
 use Rattle.listening.specs.Listening.{report_lines, dword_lines, told, taken}
 use Rattle.listening.proofs.Texts.{report_lines-append}
@@ -23,8 +22,7 @@ use Rattle.listening.proofs.Texts.{report_lines-append}
 
 settled_lines : (s : Option Settlement) → report_lines (settlement_reports s) ≡ settlement_lines s
 settled_lines None = refl
-settled_lines (Some (Vouched span)) = append-nil (line (report_text (report.Vouched span)))
-settled_lines (Some (Doubtful span)) = append-nil (line (report_text (report.Doubtful span)))
+settled_lines (Some settlement) = append-nil (line (report_text (settlement_report settlement)))
 
 lost_told : (lost : Bool) → report_lines (lost_reports lost) ≡ lost_lines lost
 lost_told true = append-nil (line (report_text report.Lost))
@@ -32,8 +30,8 @@ lost_told false = refl
 
 bad_told : (b : BadDword) → report_lines (bad_reports b) ≡ heard_lines (Bad b)
 bad_told b =
-    let own = line (report_text (report.Bad (record { number = b.number; mask = b.mask }))) in
-    report_lines-append (settlement_reports b.settlement) (report.Bad (record { number = b.number; mask = b.mask }) ∷ lost_reports b.lost)
+    let own = line (report_text (report.Bad (bad_report b))) in
+    report_lines-append (settlement_reports b.settlement) (report.Bad (bad_report b) ∷ lost_reports b.lost)
     ∙ ap₂ (λ (x y : List ℕ). x ++ (own ++ y)) (settled_lines b.settlement) (lost_told b.lost)
 
 one_told : (h : Heard) → heard_lines h ≡ report_lines (reports_of h) ++ dword_lines (dwords_of h)
@@ -42,7 +40,7 @@ one_told More = refl
 one_told Slip = sym (append-nil (report_lines (report.Slip ∷ [])) ∙ append-nil (line (report_text report.Slip)))
 one_told Gained = sym (append-nil (report_lines (report.Gained ∷ [])) ∙ append-nil (line (report_text report.Gained)))
 one_told (Good g) =
-    sym (ap₂ (λ (x y : List ℕ). x ++ y) (settled_lines g.settlement) (append-nil (line (dword_text (record { number = g.number; dword = g.dword })))))
+    sym (ap₂ (λ (x y : List ℕ). x ++ y) (settled_lines g.settlement) (append-nil (line (dword_text (dword_record g)))))
 one_told (Bad b) = sym (append-nil (report_lines (bad_reports b)) ∙ bad_told b)
 
 -- ---- what is collected, and what is told after it
@@ -93,7 +91,7 @@ after_one_answer Slip next bits most t = after_halt most Slip next bits (inr (om
 after_one_answer Gained next bits most t = after_halt most Gained next bits (inr (omega arith))
 after_one_answer (Good g) next bits most t = after_halt most (Good g) next bits (inl (omega arith))
 after_one_answer (Bad b) next bits most t =
-    let one = report.Bad (record { number = b.number; mask = b.mask }) ∷ lost_reports b.lost in
+    let one = report.Bad (bad_report b) ∷ lost_reports b.lost in
     after_halt most (Bad b) next bits (inr (omega (arith, length-append (settlement_reports b.settlement) one)))
 
 told_by : (m n : Bool) (s : State) (bit : ℕ) (bits : List ℕ) (c : Collection) → eqb s.ledger.number most_numbers ≡ n

@@ -54,7 +54,7 @@ impl fmt::Display for ListenFault {
     }
 }
 
-// Appends a line for each element to the text, and empties the queue.
+// Appends a line for each element to the text, and empties the queue. What an element prints is known.
 fn tell_lines<T: Copy + fmt::Display>(text: &mut String, queue: &mut Queue<'_, T>) -> fmt::Result
     requires { (x : T) → IsSome (T.output x) }
     ensures text { OnOk result (string_bytes text.new ≡ string_bytes text.old ++ lines_of T.output (elements queue.old)) }

@@ -115,7 +115,7 @@ stops_here most room places whole i j d₀ d p₀ p why stop s s' tap tap' f rea
     let now = ap₂ (λ (x : State) (m : Meaning). stopped (cond (eqb (length m.waiting) 0) Dry why) x m.waiting) (sym same) (sym left) in
     completes_last _ whole i j d₀ d p₀ p (cond (eqb (length tap'.waiting) 0) Dry why) stop s' tap'.waiting f (e ∙ now) n r
 
--- an answer hands out one dword and three reports at most
+-- an answer hands out one dword and three reports at most, so what is kept of it is all of it
 length_listed : {X : Type 0} (o : Option X) → length (option_to_list o) ≤ 1
 length_listed None = omega arith
 length_listed (Some x) = omega arith

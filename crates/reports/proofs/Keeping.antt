@@ -1,10 +1,10 @@
 -- Some elements pushed, one after the other.
 use Rattle.std.proofs.Common.{◌≡◌, ℕ, zero, suc, ◌+◌, ◌-◌, ◌≤◌, List, [], ◌∷◌, ◌++◌, length, set, sym, refl, ap, ◌∙◌, subst, take, append_assoc, append-nil, arith, length-append}
 use Rattle.std.proofs.lemmas.Grind.{common_steps}
-use Rattle.std.proofs.lemmas.List.{length-set}
+use Rattle.std.proofs.lemmas.List.{length-set, take_all}
 use Rattle.reports.specs.declared.queue.Queue.{Queue}
 use Rattle.line.specs.Cyclic.{wrap}
-use Rattle.reports.specs.Queues.{memory_of, count_of, elements, room_of, start, free_place, written, Kept, Filled, Appended}
+use Rattle.reports.specs.Queues.{memory_of, count_of, elements, room_of, start, written, Kept, Filled}
 
 module _ {T : Type 0} where
   pub written-append : (first count : ℕ) (xs ys memory : List T) → written first count (xs ++ ys) memory ≡ written first (count + length xs) ys (written first count xs memory)
@@ -16,17 +16,6 @@ module _ {T : Type 0} where
 
   pub kept_none : (q : Queue T) → Kept q [] q
   kept_none q = record { appended = sym (append-nil (elements q)); count = omega arith; room = omega arith; memory = refl; first = refl }
-
-  pub kept_one : (q q' : Queue T) (x : T) → Appended q x q' → Kept q (x ∷ []) q'
-  kept_one q q' x p =
-      let n : length (memory_of q') ≡ length (memory_of q) = ap length p.memory ∙ length-set (memory_of q) (free_place q) x in
-      record {
-        appended = p.joined;
-        count = p.count;
-        room = omega (arith, n, p.count);
-        memory = p.memory;
-        first = p.first;
-      }
 
   pub kept_then : (a b c : Queue T) (xs ys : List T) → Kept a xs b → Kept b ys c → Kept a (xs ++ ys) c
   kept_then a b c xs ys p q =
@@ -50,14 +39,10 @@ module _ {T : Type 0} where
   take_both zero m (x ∷ xs) ys e = grind (arith, common_steps)
   take_both (suc n) m (x ∷ xs) ys e = ap (λ (zs : List T). x ∷ zs) (take_both n m xs ys (omega arith))
 
+  -- filling by one list and then another is filling by both
   pub filled_then : (a b c : Queue T) (xs ys : List T) → Filled a xs b → Filled b ys c → Filled a (xs ++ ys) c
   filled_then a b c xs ys p q =
       subst (λ (zs : List T). Kept a zs c) (sym (take_both (room_of a) (room_of b) xs ys p.room)) (kept_then a b c (take (room_of a) xs) (take (room_of b) ys) p q)
-
-  take_all : (n : ℕ) (xs : List T) → length xs ≤ n → take n xs ≡ xs
-  take_all n [] h = grind (arith, common_steps)
-  take_all zero (x ∷ xs) h = absurd (omega arith)
-  take_all (suc n) (x ∷ xs) h = ap (λ (ys : List T). x ∷ ys) (take_all n xs (omega arith))
 
   -- where there is room for all, all are pushed
   pub filled_whole : (q q' : Queue T) (xs : List T) → length xs ≤ room_of q → Filled q xs q' → Kept q xs q'

@@ -9,11 +9,13 @@ use Rattle.line.proofs.Cyclics.{length_cyclic, cyclic_push, cyclic_pop}
 use Rattle.reports.specs.declared.queue.Queue.{Queue}
 use Rattle.reports.specs.Queues.{memory_of, elements, count_of, Appended, Popped}
 
+-- where none wait, none are shown
 pub none_shown : {X : Type 0} (xs : List X) (front count : ℕ) → count ≡ 0 → cyclic xs front count ≡ []
 unfolding cyclic
 none_shown xs front count h = nil_from_length (cyclic xs front count) (simp length-take (omega arith))
 
 module _ {T : Type 0} where
+  -- the ring counts the elements
   pub length_elements : (q : Queue T) → length (elements q) ≡ count_of q
   length_elements q = length_cyclic (memory_of q) q.ring.front q.ring.count (omega arith) (omega arith)
 
@@ -23,6 +25,7 @@ module _ {T : Type 0} where
       subst (λ (r : Ring). (w : r.size ≡ length q.memory.now) → record { memory = q.memory; ring = r; whole = w } ≡ q) (sym e)
       (λ w. ap (λ (z : q.ring.size ≡ length q.memory.now). record { memory = q.memory; ring = q.ring; whole = z }) (ℕ_set _ _ w q.whole)) whole
 
+  -- a ring grown by the place that was written has one element more
   pub appended : (q q' : Queue T) (place : ℕ) (x : T) → Grown q.ring (Some place) q'.ring → memory_of q' ≡ set (memory_of q) place x → Appended q x q'
   appended q q' place x g m =
       let xs = memory_of q in
@@ -39,6 +42,7 @@ module _ {T : Type 0} where
         first = g.2;
       }
 
+  -- a ring advanced past the place that was read has lost the first element
   pub popped : (q : Queue T) (ring : Ring) (place : ℕ) (x : T) → Advanced q.ring (Some place) ring → x ≡ get_or (memory_of q) place x
       → (elements q ≡ x ∷ cyclic (memory_of q) ring.front ring.count) × (memory_of q ≡ memory_of q)
   popped q ring place x a e =
@@ -52,6 +56,7 @@ module _ {T : Type 0} where
         refl,
       )
 
+  -- where the ring cannot advance, nothing changes
   pub none_popped : (q : Queue T) (r : Option T) (ring : Ring) (whole : ring.size ≡ length q.memory.now) → r ≡ None → q.ring.count ≡ 0 → ring ≡ q.ring
       → Popped q r (record { memory = q.memory; ring = ring; whole = whole })
   none_popped q r ring whole n c e =

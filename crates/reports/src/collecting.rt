@@ -79,6 +79,7 @@ fn stop_at<T: Tap>(tap: &T, bits: usize, stop: Stop) -> Collected
 }
 
 // Hears at most so many bits into the two queues.
+// Kept: no other function takes both queues, so a struct of them would be made only to be taken apart.
 pub fn collect<T: Tap>(
     receiver: &mut Receiver,
     tap: &mut T,

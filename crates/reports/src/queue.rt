@@ -30,6 +30,7 @@ impl<T> Refusal for QueueRefusal<T> {
     }
 }
 
+// Kept: a queue's methods lend its memory on to functions of the slice, which is a rule of the project.
 fn store<T: Copy>(memory: &mut [T], place: usize, element: T)
     requires { place < length memory.old }
     ensures { memory.new ≡ slice_set memory.old place element }

@@ -1,4 +1,4 @@
-use Rattle.std.proofs.Common.{◌≡◌, ℕ, List, [], ◌++◌, length, string_bytes, sym, ap, ◌∙◌, append-nil, arith, lit<}
+use Rattle.std.proofs.Common.{length, string_bytes, ap, ◌∙◌, append-nil, arith, lit<}
 use Rattle.reports.proofs.Keeping.{kept-size}
 use Rattle.listening.proofs.Turns.{Turn, turn}
 use Rattle.listening.proofs.text.tell_all.Given as given
@@ -33,10 +33,6 @@ hearing-preserved g c =
       (told-reports.empty, ap length told-reports.memory ∙ (kept-size l.reports r.new.reports _ r.ensures.collects.kept_reports ∙ l.invariant.4.1)),
     )
 
--- where nothing more is told, the text is whole
-ended : (text text' lines : List ℕ) → text' ++ lines ≡ text → lines ≡ [] → text' ≡ text
-ended text text' lines e n = sym (append-nil text') ∙ (sym (ap (λ (x : List ℕ). text' ++ x) n) ∙ e)
-
 pub overflow_sub-result : goal.overflow_sub-result
 overflow_sub-result g c =
     let t = one_turn g (goal.at.overflow_sub-result g c).In_ok-tell_lines-2 in
@@ -47,7 +43,7 @@ returns-in-Dry g c =
     let t = one_turn g (goal.at.returns-in-Dry g c).In_ok-tell_lines-2 in
     let none = t.over c.in-Dry.is in
     record {
-      text = ended _ _ _ (t.lines ∙ c.hearing.invariant.1) none.0;
+      text = simp (none.0, append-nil) at (t.lines ∙ c.hearing.invariant.1);
       taken = omega (arith, t.count, c.hearing.invariant.0, none.1, t.shorter, c.hearing.invariant.2, c.count.ensures, c.count-before.ensures);
     }
 
