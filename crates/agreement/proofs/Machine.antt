@@ -7,6 +7,7 @@ use Rattle.bringup.specs.declared.end.Phase.{Phase}
 use Rattle.bringup.specs.declared.end.Phase.TheVariants.{SendingCominit, Awaiting, SendingComsas, Falling, Negotiating}
 use Rattle.bringup.specs.declared.rate.Rate.TheVariants.{G1}
 use Rattle.bringup.specs.declared.rate.RateSet.{RateSet}
+use Rattle.bringup.specs.declared.end.Standing.TheVariants.{AfterInvalid}
 use Rattle.bringup.specs.declared.end.Window.{Window}
 use Rattle.bringup.specs.declared.end.End.{End}
 use Rattle.bringup.specs.declared.end.Sign.{Sign}
@@ -153,7 +154,7 @@ comsas_step gs s k d w h =
 
 -- the first window as it opens
 abbrev pub first_window : Window
-first_window = record { rate = G1; last = false; follows = false; locked = false; aligned = false }
+first_window = record { rate = G1; standing = AfterInvalid; locked = false; aligned = false }
 
 -- COMSAS ends; without a fall the end waits for it
 pub comsas_end : (gs : List Sign) (s : RateSet) (d : Detector) (w : Option Window) → (passed d).fallen ≡ false →

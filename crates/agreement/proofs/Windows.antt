@@ -6,6 +6,8 @@ use Rattle.bringup.specs.declared.end.Phase.{Phase}
 use Rattle.bringup.specs.declared.end.Phase.TheVariants.{Negotiating, Ready, Failed}
 use Rattle.bringup.specs.declared.rate.Rate.{Rate}
 use Rattle.bringup.specs.declared.rate.RateSet.{RateSet}
+use Rattle.bringup.specs.declared.end.Standing.{Standing}
+use Rattle.bringup.specs.declared.end.Standing.TheVariants.{AfterInvalid, AfterValid, Final}
 use Rattle.bringup.specs.declared.end.Window.{Window}
 use Rattle.bringup.specs.declared.end.Sign.{Sign}
 use Rattle.bringup.specs.declared.end.Sign.TheVariants.{Nothing, BurstStarts, BurstEnds, Locked, Align1}
@@ -25,8 +27,7 @@ use Rattle.agreement.proofs.Stages.{state, In, step}
 -- what a window keeps, and how it may change at its tick k
 pub record Grows (s : RateSet) (k : ℕ) (gs : List Sign) (v w : Window) : Type 0 where
   pub rate : w.rate ≡ v.rate
-  pub last : w.last ≡ v.last
-  pub valid_before : w.follows ≡ v.follows
+  pub standing : w.standing ≡ v.standing
   pub lock_stays : v.locked ≡ true → w.locked ≡ true
   pub align_stays : v.aligned ≡ true → w.aligned ≡ true
   pub lock_counts : w.locked ≡ true → (v.locked ≡ true) ⊎ (in_time s k v ≡ true)
@@ -36,8 +37,7 @@ pub record Grows (s : RateSet) (k : ℕ) (gs : List Sign) (v w : Window) : Type 
 grows_none : (s : RateSet) (k : ℕ) (w : Window) → Grows s k [] w w
 grows_none s k w = record {
   rate = refl;
-  last = refl;
-  valid_before = refl;
+  standing = refl;
   lock_stays = λ e. e;
   align_stays = λ e. e;
   lock_counts = λ e. inl e;
@@ -48,8 +48,7 @@ grows_none s k w = record {
 grows_more : (g : Sign) (gs : List Sign) (s : RateSet) (k : ℕ) (v w : Window) → Grows s k gs v w → Grows s k (g ∷ gs) v w
 grows_more g gs s k v w h = record {
   rate = h.rate;
-  last = h.last;
-  valid_before = h.valid_before;
+  standing = h.standing;
   lock_stays = h.lock_stays;
   align_stays = h.align_stays;
   lock_counts = h.lock_counts;
@@ -63,8 +62,7 @@ grows_locked gs s k w rest true e =
     let h = rest (locked_window w) in
     rw e (record {
       rate = h.rate;
-      last = h.last;
-      valid_before = h.valid_before;
+      standing = h.standing;
       lock_stays = λ _. h.lock_stays refl;
       align_stays = h.align_stays;
       lock_counts = λ _. inr e;
@@ -79,8 +77,7 @@ grows_align gs s k w rest true e = subst (λ z. Grows s k (Align1 ∷ gs) w (win
     (let h = rest (aligned_window w) in
     record {
       rate = h.rate;
-      last = h.last;
-      valid_before = h.valid_before;
+      standing = h.standing;
       lock_stays = h.lock_stays;
       align_stays = λ _. h.align_stays refl;
       lock_counts = h.lock_counts;
@@ -133,9 +130,22 @@ is_align1 sends.Align1 = true
 not_align1 : (b : Bool) → is_align1 (cond b sends.Align0 Idle) ≡ false
 not_align1 b = grind (arith, nat_tests)
 
+-- an end that is over makes no transition
+over_settled : (p : Phase) (e : End) → is_over p ≡ true → settled p e ≡ e
+over_settled p e over = grind (arith, nat_tests)
+
+-- and neither waits nor negotiates
+over_idle : (p : Phase) → is_over p ≡ true → (is_awaiting p ≡ false) × (is_negotiating p ≡ false)
+over_idle p over = (grind (arith, nat_tests), grind (arith, nat_tests))
+
 -- a window as it opens
-abbrev pub fresh_window : Rate → Bool → Bool → Window
-fresh_window r last av = record { rate = r; last = last; follows = av; locked = false; aligned = false }
+abbrev pub fresh_window : Rate → Standing → Window
+fresh_window r standing = record { rate = r; standing = standing; locked = false; aligned = false }
+
+-- where the next window stands, unless it is the final one
+abbrev pub after : Bool → Standing
+after true = AfterValid
+after false = AfterInvalid
 
 -- The window opened at tick o with w
 module _ (h : ℕ → List Sign) (s : RateSet) (o : ℕ) (w : Window) (fresh : w.locked ≡ false) (unaligned : w.aligned ≡ false)
@@ -164,17 +174,11 @@ module _ (h : ℕ → List Sign) (s : RateSet) (o : ℕ) (w : Window) (fresh : w
   open_rate zero = refl
   open_rate (suc k) = (grown k).rate ∙ open_rate k
 
-  -- it stays the final one or not
-  pub open_last : (k : ℕ) → (current k).last ≡ w.last
+  -- and so does its standing
+  pub open_standing : (k : ℕ) → (current k).standing ≡ w.standing
   unfolding current
-  open_last zero = refl
-  open_last (suc k) = (grown k).last ∙ open_last k
-
-  -- and what it knows of the one before stays
-  pub open_valid_before : (k : ℕ) → (current k).follows ≡ w.follows
-  unfolding current
-  open_valid_before zero = refl
-  open_valid_before (suc k) = (grown k).valid_before ∙ open_valid_before k
+  open_standing zero = refl
+  open_standing (suc k) = (grown k).standing ∙ open_standing k
 
   -- a lock stays
   pub locked_stays : (k j : ℕ) → (current k).locked ≡ true → (current (k + j)).locked ≡ true
@@ -278,49 +282,45 @@ module _ (h : ℕ → List Sign) (s : RateSet) (o : ℕ) (w : Window) (fresh : w
   last_end = make s Negotiating 328640 last_detector (Some (current 328639))
 
   -- what follows is a window: its first signs change nothing of it
-  reopened : (r : Rate) (last av : Bool) → closing (current 328639) last_end ≡ make s Negotiating 0 last_detector (Some (fresh_window r last av)) →
-      In h s (o + 328640) Negotiating 0 (Some (fresh_window r last av))
-  reopened r last av e = closes Negotiating (Some (fresh_window r last av))
-      (ap (all_signed (h (suc (o + 328639)))) e ∙ signs_opening (h (suc (o + 328639))) s last_detector (fresh_window r last av) refl)
+  reopened : (r : Rate) (standing : Standing) → closing (current 328639) last_end ≡ make s Negotiating 0 last_detector (Some (fresh_window r standing)) →
+      In h s (o + 328640) Negotiating 0 (Some (fresh_window r standing))
+  reopened r standing e = closes Negotiating (Some (fresh_window r standing))
+      (ap (all_signed (h (suc (o + 328639)))) e ∙ signs_opening (h (suc (o + 328639))) s last_detector (fresh_window r standing) refl)
+
+  -- or an end that is over, whose signs do nothing
+  ended : (p : Phase) → is_over p ≡ true → closing (current 328639) last_end ≡ make s p 0 last_detector (Some (current 328639)) →
+      In h s (o + 328640) p 0 (Some (current 328639))
+  ended p over e = closes p (Some (current 328639))
+      (ap (all_signed (h (suc (o + 328639)))) e
+      ∙ signs_other (h (suc (o + 328639))) s p 0 last_detector (Some (current 328639)) (over_idle p over).0 (over_idle p over).1)
 
   -- a valid final window gives ready
-  pub closes_ready : w.last ≡ true → valid ≡ true → In h s (o + 328640) Ready 0 (Some (current 328639))
-  closes_ready l v = closes Ready (Some (current 328639))
-      (ap (all_signed (h (suc (o + 328639)))) (simp (open_last 328639, l, v)) ∙ signs_other (h (suc (o + 328639))) s Ready 0 last_detector (Some (current 328639)) refl refl)
+  pub closes_ready : w.standing ≡ Final → valid ≡ true → In h s (o + 328640) Ready 0 (Some (current 328639))
+  closes_ready l v = ended Ready refl (simp (open_standing 328639, l, v))
 
   -- an invalid final window gives failed
-  pub closes_failed : w.last ≡ true → valid ≡ false → In h s (o + 328640) Failed 0 (Some (current 328639))
-  closes_failed l v = closes Failed (Some (current 328639))
-      (ap (all_signed (h (suc (o + 328639)))) (simp (open_last 328639, l, v)) ∙ signs_other (h (suc (o + 328639))) s Failed 0 last_detector (Some (current 328639)) refl refl)
+  pub closes_failed : w.standing ≡ Final → valid ≡ false → In h s (o + 328640) Failed 0 (Some (current 328639))
+  closes_failed l v = ended Failed refl (simp (open_standing 328639, l, v))
 
   -- a valid window is followed by the next rate
-  pub closes_valid : w.last ≡ false → valid ≡ true → In h s (o + 328640) Negotiating 0 (Some (fresh_window (next_rate w.rate) false true))
-  closes_valid l v = reopened (next_rate w.rate) false true (simp (open_last 328639, l, v, open_rate 328639))
+  pub closes_valid : (av : Bool) → w.standing ≡ after av → valid ≡ true → In h s (o + 328640) Negotiating 0 (Some (fresh_window (next_rate w.rate) AfterValid))
+  closes_valid true l v = reopened (next_rate w.rate) AfterValid (simp (open_standing 328639, l, v, open_rate 328639))
+  closes_valid false l v = reopened (next_rate w.rate) AfterValid (simp (open_standing 328639, l, v, open_rate 328639))
 
   -- an invalid one after a valid one is followed by the final one
-  pub closes_back : w.last ≡ false → valid ≡ false → w.follows ≡ true →
-      In h s (o + 328640) Negotiating 0 (Some (fresh_window (previous_rate w.rate) true false))
-  closes_back l v a = reopened (previous_rate w.rate) true false (simp (open_last 328639, l, v, open_valid_before 328639, a, open_rate 328639))
+  pub closes_back : w.standing ≡ AfterValid → valid ≡ false →
+      In h s (o + 328640) Negotiating 0 (Some (fresh_window (previous_rate w.rate) Final))
+  closes_back l v = reopened (previous_rate w.rate) Final (simp (open_standing 328639, l, v, open_rate 328639))
 
   -- an invalid one above the highest rate gives failed
-  pub closes_gives_up : w.last ≡ false → valid ≡ false → w.follows ≡ false → past_highest s w.rate ≡ true →
+  pub closes_gives_up : w.standing ≡ AfterInvalid → valid ≡ false → past_highest s w.rate ≡ true →
       In h s (o + 328640) Failed 0 (Some (current 328639))
-  closes_gives_up l v a p = closes Failed (Some (current 328639))
-      (ap (all_signed (h (suc (o + 328639)))) (simp (open_last 328639, l, v, open_valid_before 328639, a, open_rate 328639, p))
-      ∙ signs_other (h (suc (o + 328639))) s Failed 0 last_detector (Some (current 328639)) refl refl)
+  closes_gives_up l v p = ended Failed refl (simp (open_standing 328639, l, v, open_rate 328639, p))
 
   -- any other is followed by the next rate
-  pub closes_next : w.last ≡ false → valid ≡ false → w.follows ≡ false → past_highest s w.rate ≡ false →
-      In h s (o + 328640) Negotiating 0 (Some (fresh_window (next_rate w.rate) false false))
-  closes_next l v a p = reopened (next_rate w.rate) false false (simp (open_last 328639, l, v, open_valid_before 328639, a, open_rate 328639, p))
-
--- an end that is over makes no transition
-over_settled : (p : Phase) (e : End) → is_over p ≡ true → settled p e ≡ e
-over_settled p e over = grind (arith, nat_tests)
-
--- and neither waits nor negotiates
-over_idle : (p : Phase) → is_over p ≡ true → (is_awaiting p ≡ false) × (is_negotiating p ≡ false)
-over_idle p over = (grind (arith, nat_tests), grind (arith, nat_tests))
+  pub closes_next : w.standing ≡ AfterInvalid → valid ≡ false → past_highest s w.rate ≡ false →
+      In h s (o + 328640) Negotiating 0 (Some (fresh_window (next_rate w.rate) AfterInvalid))
+  closes_next l v p = reopened (next_rate w.rate) AfterInvalid (simp (open_standing 328639, l, v, open_rate 328639, p))
 
 -- so it is over for good
 pub over_stays : (h : ℕ → List Sign) (s : RateSet) (t : ℕ) (w : Option Window) (p : Phase) → is_over p ≡ true →
