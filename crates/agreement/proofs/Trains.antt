@@ -1,11 +1,10 @@
 -- What a detector makes of COMINIT and COMSAS.
-use Rattle.std.proofs.Common.{◌≡◌, ℕ, zero, suc, ◌+◌, ◌*◌, ◌%◌, ◌<◌, ◌≤◌, Bool, true, false, ◌&&◌, ltb, leb, Some, None, Option, sym, refl, ap, ◌∙◌, subst, inl, inr, add-zero, add-suc, arith}
-use Rattle.std.proofs.lemmas.Bool.{cond-true, cond_both, lt-leb, and_right, and_left, and_from, and_parts, ltb-true, leb-true, both_ways, true≢false, false≢true, cases_Bool, cases_lt}
+use Rattle.std.proofs.Common.{◌≡◌, ℕ, zero, suc, ◌+◌, ◌*◌, ◌%◌, ◌<◌, ◌≤◌, Bool, true, false, ◌&&◌, ltb, leb, None, Option, sym, refl, ap, ◌∙◌, subst, inl, inr, add-zero, add-suc, arith}
+use Rattle.std.proofs.lemmas.Bool.{cond-true, lt-leb, and_right, and_left, and_from, and_parts, ltb-true, leb-true, both_ways, true≢false, false≢true, cases_Bool, cases_lt}
 use Rattle.std.proofs.lemmas.Bool.Decides.{nat_tests}
 use Rattle.bringup.specs.declared.detector.Detector.{Detector}
 use Rattle.bringup.specs.declared.signal.Signal.{Signal}
-use Rattle.bringup.specs.declared.signal.Signal.TheVariants.{Comsas}
-use Rattle.bringup.specs.Detection.{passed, risen, ceased, more, signal_of, alike_after, closed, is_comsas}
+use Rattle.bringup.specs.Detection.{passed, risen, ceased, signal_of, alike_after, closed, is_comsas}
 use Rattle.bringup.specs.Signals.{burst}
 use Rattle.bringup.specs.Asking.{in_burst}
 use Rattle.agreement.proofs.Hearing.{hear, relay, relay_zero, relay_suc, relay_step, relay_split, shift, idled, passed-burst, stay_burst, stay_idle, periods, periods_burst, periods_fallen, comsas_detected, cominit_detected, train, risen-burst, hear_fallen}
@@ -198,9 +197,7 @@ risen_fallen d = hear_fallen false true d
 -- the fifth period finds COMSAS detected
 five_detected : (d : Detector) → (periods 2879 5 d).comsas ≡ true
 unfolding periods
-five_detected d =
-    let n : ℕ = alike_after (Some Comsas) d.signal d.alike in
-    cond_both (leb 4 (more (more (more (more n))))) true (periods 2879 4 d).comsas (λ z. z ≡ true) (λ _. refl) (λ _. comsas_detected d)
+five_detected d = grind (arith, nat_tests, comsas_detected d)
 
 -- A whole COMSAS, from the tick before its first burst, until it falls
 module _ (b : ℕ → Bool) (d : Detector) (last : ℕ) (is : (i : ℕ) → i ≤ last → b i ≡ in_burst 2880 (2879 + i)) where

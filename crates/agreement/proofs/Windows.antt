@@ -1,7 +1,7 @@
 -- One window of one end.
 use Rattle.std.proofs.Common.{◌≡◌, ℕ, zero, suc, ◌+◌, ◌-◌, ◌<◌, ◌≤◌, Bool, true, false, cond, ◌&&◌, leb, ◌⊎◌, List, [], ◌∷◌, Some, Option, sym, refl, ap, ◌∙◌, subst, inl, inr, add-zero, add-suc, arith}
 use Rattle.std.proofs.lemmas.Bool.Decides.{nat_tests}
-use Rattle.std.proofs.lemmas.Bool.{cond-true, cond-false, cond_both, and_from, and_parts, le-leb, leb-true, both_ways, false≢true, cases_Bool, cases_lt, or_right}
+use Rattle.std.proofs.lemmas.Bool.{cond-true, cond-false, and_from, and_parts, le-leb, leb-true, both_ways, false≢true, cases_Bool, cases_lt, or_right}
 use Rattle.bringup.specs.declared.end.Phase.{Phase}
 use Rattle.bringup.specs.declared.end.Phase.TheVariants.{Negotiating, Ready, Failed}
 use Rattle.bringup.specs.declared.rate.Rate.{Rate}
@@ -98,26 +98,12 @@ grows (Align1 ∷ gs) s k w = grows_align gs s k w (λ v. grows gs s k v) w.lock
 -- a lock in time counts
 pub locks : (gs : List Sign) (s : RateSet) (k : ℕ) (w : Window) → has Locked gs ≡ true → in_time s k w ≡ true → (window_all gs s k w).locked ≡ true
 locks [] s k w h i = absurd (false≢true h)
-locks (Nothing ∷ gs) s k w h i = locks gs s k w h i
-locks (BurstStarts ∷ gs) s k w h i = locks gs s k w h i
-locks (BurstEnds ∷ gs) s k w h i = locks gs s k w h i
-locks (Locked ∷ gs) s k w h i =
-    subst (λ z. (window_all gs s k z).locked ≡ true) (sym (cond-true (in_time s k w) (locked_window w) w i)) ((grows gs s k (locked_window w)).lock_stays refl)
-locks (Align1 ∷ gs) s k w h i =
-    cond_both w.locked (aligned_window w) w (λ z. (window_all gs s k z).locked ≡ true)
-    (λ e. locks gs s k (aligned_window w) h i) (λ _. locks gs s k w h i)
+locks (g ∷ gs) s k w h i = grind (arith, nat_tests, locks gs s k w, locks gs s k (aligned_window w), (grows gs s k (locked_window w)).lock_stays)
 
 -- ALIGN(1) after a lock makes the window valid
 pub aligns : (gs : List Sign) (s : RateSet) (k : ℕ) (w : Window) → has Align1 gs ≡ true → w.locked ≡ true → (window_all gs s k w).aligned ≡ true
 aligns [] s k w h l = absurd (false≢true h)
-aligns (Nothing ∷ gs) s k w h l = aligns gs s k w h l
-aligns (BurstStarts ∷ gs) s k w h l = aligns gs s k w h l
-aligns (BurstEnds ∷ gs) s k w h l = aligns gs s k w h l
-aligns (Locked ∷ gs) s k w h l =
-    cond_both (in_time s k w) (locked_window w) w (λ z. (window_all gs s k z).aligned ≡ true)
-    (λ e. aligns gs s k (locked_window w) h refl) (λ _. aligns gs s k w h l)
-aligns (Align1 ∷ gs) s k w h l =
-    subst (λ z. (window_all gs s k z).aligned ≡ true) (sym (cond-true w.locked (aligned_window w) w l)) ((grows gs s k (aligned_window w)).align_stays refl)
+aligns (g ∷ gs) s k w h l = grind (arith, nat_tests, aligns gs s k w, aligns gs s k (locked_window w), (grows gs s k (aligned_window w)).align_stays)
 
 -- whether an end sends ALIGN(1)
 abbrev pub is_align1 : Activity → Bool
