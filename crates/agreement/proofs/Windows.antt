@@ -10,7 +10,7 @@ use Rattle.bringup.specs.declared.end.Standing.{Standing}
 use Rattle.bringup.specs.declared.end.Standing.TheVariants.{AfterInvalid, AfterValid, Final}
 use Rattle.bringup.specs.declared.end.Window.{Window}
 use Rattle.bringup.specs.declared.end.Sign.{Sign}
-use Rattle.bringup.specs.declared.end.Sign.TheVariants.{Nothing, BurstStarts, BurstEnds, Locked, Align1}
+use Rattle.bringup.specs.declared.end.Sign.TheVariants.{Locked, Align1}
 use Rattle.bringup.specs.declared.end.Activity.{Activity}
 use Rattle.bringup.specs.declared.end.Activity.TheVariants.{Idle, Burst}
 use Rattle.bringup.specs.declared.end.Activity.TheVariants as sends
@@ -21,7 +21,7 @@ use Rattle.bringup.specs.Detection.{passed}
 use Rattle.bringup.specs.declared.detector.Detector.{Detector}
 use Rattle.bringup.specs.declared.end.End.{End}
 use Rattle.agreement.specs.FairLine.{has, is_sign, all_signed, is_over}
-use Rattle.agreement.proofs.Machine.{make, ears, window_all, in_time, window_step, heard, signs_opening, signs_other}
+use Rattle.agreement.proofs.Machine.{make, ears, window_one, window_all, in_time, window_step, heard, signs_opening, signs_other}
 use Rattle.agreement.proofs.Stages.{state, In, step}
 
 -- what a window keeps, and how it may change at its tick k
@@ -33,9 +33,18 @@ pub record Grows (s : RateSet) (k : ℕ) (gs : List Sign) (v w : Window) : Type 
   pub lock_counts : w.locked ≡ true → (v.locked ≡ true) ⊎ (in_time s k v ≡ true)
   pub align_noted : w.aligned ≡ true → (v.aligned ≡ true) ⊎ ((has Align1 gs ≡ true) × (w.locked ≡ true))
 
--- without signs nothing grows
-grows_none : (s : RateSet) (k : ℕ) (w : Window) → Grows s k [] w w
-grows_none s k w = record {
+-- a sign locks a window only in time
+locked_by : (g : Sign) (s : RateSet) (k : ℕ) (w : Window) → (window_one g s k w).locked ≡ true → (w.locked ≡ true) ⊎ (in_time s k w ≡ true)
+locked_by g s k w e = elim (cases_Bool w.locked) [ inl l ↦ inl l | inr n ↦ inr (grind (arith, nat_tests)) ]
+
+-- and makes it valid only as an ALIGN(1) in a locked one
+aligned_by : (g : Sign) (s : RateSet) (k : ℕ) (w : Window) → (window_one g s k w).aligned ≡ true →
+    (w.aligned ≡ true) ⊎ ((is_sign Align1 g ≡ true) × ((window_one g s k w).locked ≡ true))
+aligned_by g s k w e = elim (cases_Bool w.aligned) [ inl a ↦ inl a | inr n ↦ inr (grind (arith, nat_tests), grind (arith, nat_tests)) ]
+
+-- so the signs of a tick let a window grow only
+pub grows : (gs : List Sign) (s : RateSet) (k : ℕ) (w : Window) → Grows s k gs w (window_all gs s k w)
+grows [] s k w = record {
   rate = refl;
   standing = refl;
   lock_stays = λ e. e;
@@ -43,57 +52,17 @@ grows_none s k w = record {
   lock_counts = λ e. inl e;
   align_noted = λ e. inl e;
 }
-
--- one more sign ahead keeps what grew
-grows_more : (g : Sign) (gs : List Sign) (s : RateSet) (k : ℕ) (v w : Window) → Grows s k gs v w → Grows s k (g ∷ gs) v w
-grows_more g gs s k v w h = record {
-  rate = h.rate;
-  standing = h.standing;
-  lock_stays = h.lock_stays;
-  align_stays = h.align_stays;
-  lock_counts = h.lock_counts;
-  align_noted = λ e. elim (h.align_noted e) [ inl p ↦ inl p | inr p ↦ inr (or_right (is_sign Align1 g) (has Align1 gs) p.0, p.1) ];
-}
-
--- a lock ahead of other signs
-grows_locked : (gs : List Sign) (s : RateSet) (k : ℕ) (w : Window) → ((v : Window) → Grows s k gs v (window_all gs s k v)) →
-    (b : Bool) → in_time s k w ≡ b → Grows s k (Locked ∷ gs) w (window_all gs s k (cond (in_time s k w) (locked_window w) w))
-grows_locked gs s k w rest true e =
-    let h = rest (locked_window w) in
-    rw e (record {
-      rate = h.rate;
-      standing = h.standing;
-      lock_stays = λ _. h.lock_stays refl;
-      align_stays = h.align_stays;
-      lock_counts = λ _. inr e;
-      align_noted = h.align_noted;
-    })
-grows_locked gs s k w rest false e = rw e (grows_more Locked gs s k w (window_all gs s k w) (rest w))
-
--- an ALIGN(1) ahead of other signs
-grows_align : (gs : List Sign) (s : RateSet) (k : ℕ) (w : Window) → ((v : Window) → Grows s k gs v (window_all gs s k v)) →
-    (b : Bool) → w.locked ≡ b → Grows s k (Align1 ∷ gs) w (window_all gs s k (cond w.locked (aligned_window w) w))
-grows_align gs s k w rest true e = subst (λ z. Grows s k (Align1 ∷ gs) w (window_all gs s k z)) (sym (cond-true w.locked (aligned_window w) w e))
-    (let h = rest (aligned_window w) in
+grows (g ∷ gs) s k w =
+    let v : Window = window_one g s k w in
+    let h : Grows s k gs v (window_all gs s k v) = grows gs s k v in
     record {
-      rate = h.rate;
-      standing = h.standing;
-      lock_stays = h.lock_stays;
-      align_stays = λ _. h.align_stays refl;
-      lock_counts = h.lock_counts;
-      align_noted = λ _. inr (refl, h.lock_stays e);
-    })
-grows_align gs s k w rest false e = subst (λ z. Grows s k (Align1 ∷ gs) w (window_all gs s k z)) (sym (cond-false w.locked (aligned_window w) w e))
-    (grows_more Align1 gs s k w (window_all gs s k w) (rest w))
-
--- so the signs of a tick let a window grow only
-pub grows : (gs : List Sign) (s : RateSet) (k : ℕ) (w : Window) → Grows s k gs w (window_all gs s k w)
-grows [] s k w = grows_none s k w
-grows (Nothing ∷ gs) s k w = grows_more Nothing gs s k w (window_all gs s k w) (grows gs s k w)
-grows (BurstStarts ∷ gs) s k w = grows_more BurstStarts gs s k w (window_all gs s k w) (grows gs s k w)
-grows (BurstEnds ∷ gs) s k w = grows_more BurstEnds gs s k w (window_all gs s k w) (grows gs s k w)
-grows (Locked ∷ gs) s k w = grows_locked gs s k w (λ v. grows gs s k v) (in_time s k w) refl
-grows (Align1 ∷ gs) s k w = grows_align gs s k w (λ v. grows gs s k v) w.locked refl
+      rate = grind (arith, nat_tests, h.rate);
+      standing = grind (arith, nat_tests, h.standing);
+      lock_stays = λ e. h.lock_stays (grind (arith, nat_tests));
+      align_stays = λ e. h.align_stays (grind (arith, nat_tests));
+      lock_counts = λ e. elim (h.lock_counts e) [ inl l ↦ locked_by g s k w l | inr t ↦ inr (grind (arith, nat_tests, t)) ];
+      align_noted = λ e. elim (h.align_noted e) [ inl a ↦ elim (aligned_by g s k w a) [ inl b ↦ inl b | inr p ↦ inr (grind (arith, nat_tests, p.0), h.lock_stays (grind (arith, nat_tests, p.1))) ] | inr p ↦ inr (or_right (is_sign Align1 g) (has Align1 gs) p.0, p.1) ];
+    }
 
 -- a lock in time counts
 pub locks : (gs : List Sign) (s : RateSet) (k : ℕ) (w : Window) → has Locked gs ≡ true → in_time s k w ≡ true → (window_all gs s k w).locked ≡ true
