@@ -61,7 +61,13 @@ grows (g ∷ gs) s k w =
       lock_stays = λ e. h.lock_stays (grind (arith, nat_tests));
       align_stays = λ e. h.align_stays (grind (arith, nat_tests));
       lock_counts = λ e. elim (h.lock_counts e) [ inl l ↦ locked_by g s k w l | inr t ↦ inr (grind (arith, nat_tests, t)) ];
-      align_noted = λ e. elim (h.align_noted e) [ inl a ↦ elim (aligned_by g s k w a) [ inl b ↦ inl b | inr p ↦ inr (grind (arith, nat_tests, p.0), h.lock_stays (grind (arith, nat_tests, p.1))) ] | inr p ↦ inr (or_right (is_sign Align1 g) (has Align1 gs) p.0, p.1) ];
+      align_noted = λ e. elim (h.align_noted e) [
+        | inl a ↦ elim (aligned_by g s k w a) [
+          | inl b ↦ inl b
+          | inr p ↦ inr (grind (arith, nat_tests, p.0), h.lock_stays (grind (arith, nat_tests, p.1)))
+        ]
+        | inr p ↦ inr (or_right (is_sign Align1 g) (has Align1 gs) p.0, p.1)
+      ];
     }
 
 -- a lock in time counts
