@@ -2,6 +2,7 @@
 use Rattle.std.proofs.Common.{◌≡◌, ℕ, ◌+◌, ◌-◌, ◌*◌, ◌≤◌, max, true, false, ◌⊎◌, ap, inl, inr, arith}
 use Rattle.std.proofs.lemmas.Bool.{false≢true, cases_lt, or_right, or_left}
 use Rattle.bringup.specs.declared.rate.Rate.TheVariants.{G1}
+use Rattle.bringup.specs.declared.end.Standing.TheVariants.{AfterInvalid}
 use Rattle.bringup.specs.Bringup.{signalled}
 use Rattle.agreement.specs.FairLine.{Life, Hears, Reaches, Agreement, LivedFor, age, signs_at, Over, over, BothReady, BothFailed}
 use Rattle.agreement.proofs.Machine.{ears}
@@ -79,7 +80,7 @@ module _ (delay : ℕ) (short : delay ≤ 7000) (a b : Life) (fa : Hears delay a
     rb = let (u, q) = detected_since delay a b fa ca (omega arith) (omega arith) ba.detected in omega (arith, q.0)
 
     -- the first windows open within the delay of one another
-    joint : (oa ob : ℕ) → Opened a ca ta oa → Opened b cb tb ob → Joint delay a b oa ob (fresh_window G1 false false)
+    joint : (oa ob : ℕ) → Opened a ca ta oa → Opened b cb tb ob → Joint delay a b oa ob (fresh_window G1 AfterInvalid)
     joint oa ob pa pb = record {
       opens_a = pa.opens;
       opens_b = pb.opens;

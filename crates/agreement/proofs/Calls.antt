@@ -1,6 +1,6 @@
 -- From lists of calls to lives.
-use Rattle.std.proofs.Common.{◌≡◌, ℕ, zero, suc, ◌+◌, ◌-◌, ◌<◌, Bool, true, false, cond, not, ◌&&◌, ◌||◌, eqb, ltb, ◌⊎◌, List, [], ◌∷◌, ◌++◌, sym, refl, ap, ◌∙◌, subst, ap₂, inl, inr, add-zero, add-suc, arith}
-use Rattle.std.proofs.lemmas.Bool.{cond-true, cond-false, le-ltb, ne_eqb, cases_Bool, both_ways}
+use Rattle.std.proofs.Common.{◌≡◌, ℕ, zero, suc, ◌+◌, ◌<◌, Bool, true, false, cond, not, ◌&&◌, ◌||◌, eqb, ltb, ◌⊎◌, List, [], ◌∷◌, ◌++◌, sym, refl, ap, ◌∙◌, subst, ap₂, inl, inr, add-zero, add-suc, arith}
+use Rattle.std.proofs.lemmas.Bool.{cond-true, cond-false, cases_Bool, both_ways}
 use Rattle.std.proofs.lemmas.Bool.Decides.{nat_tests}
 use Rattle.code.specs.Refusals.{plain}
 use Rattle.bringup.specs.declared.end.Phase.{Phase}
@@ -51,11 +51,7 @@ module _ (n : Note) (ns : List Note) (e : End) where
 
   -- later the others follow
   h_after : (j : ℕ) → h (suc (n.ticks + j)) ≡ signs_at ns (suc j)
-  h_after j =
-      let t : ℕ = suc (n.ticks + j) in
-      cond-false (ltb t n.ticks) [] (cond (eqb t n.ticks) (n.sign ∷ signs_at ns 0) (signs_at ns (t - n.ticks))) (le-ltb t n.ticks (omega arith))
-      ∙ cond-false (eqb t n.ticks) (n.sign ∷ signs_at ns 0) (signs_at ns (t - n.ticks)) (ne_eqb t n.ticks (λ q. omega arith))
-      ∙ ap (signs_at ns) (let z : t - n.ticks ≡ suc j = omega arith in z)
+  h_after j = grind (arith, nat_tests)
 
   -- so until its tick only time passes
   before : (t : ℕ) → t < n.ticks → after h e t ≡ ticks t e

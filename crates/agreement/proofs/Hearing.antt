@@ -1,12 +1,12 @@
 -- What an end's detector makes of the other's bursts.
 use Rattle.std.proofs.Common.{◌≡◌, ℕ, zero, suc, ◌+◌, ◌*◌, ◌<◌, ◌≤◌, Bool, true, false, leb, List, [], ◌∷◌, Some, Option, sym, refl, ap, ◌∙◌, add-zero, add-suc, suc-mul, zero-add, zero-mul, arith}
-use Rattle.std.proofs.lemmas.Bool.{true≢false, false≢true}
+use Rattle.std.proofs.lemmas.Bool.{false≢true}
 use Rattle.std.proofs.lemmas.Bool.Decides.{nat_tests}
 use Rattle.bringup.specs.declared.detector.Detector.{Detector}
 use Rattle.bringup.specs.declared.signal.Signal.{Signal}
 use Rattle.bringup.specs.declared.signal.Signal.TheVariants.{Cominit, Comsas}
 use Rattle.bringup.specs.declared.end.Sign.{Sign}
-use Rattle.bringup.specs.declared.end.Sign.TheVariants.{Nothing, BurstStarts, BurstEnds, Locked, Align1}
+use Rattle.bringup.specs.declared.end.Sign.TheVariants.{BurstStarts, BurstEnds}
 use Rattle.bringup.specs.Detection.{passed, risen, ceased, more, signal_of, alike_after, closed}
 use Rattle.agreement.specs.FairLine.{has}
 use Rattle.agreement.proofs.Machine.{heard}
@@ -14,11 +14,7 @@ use Rattle.agreement.proofs.Machine.{heard}
 -- a tick's signs, by whether they hold a burst's start or end
 pub heard_quiet : (gs : List Sign) (d : Detector) → has BurstStarts gs ≡ false → has BurstEnds gs ≡ false → heard gs d ≡ d
 heard_quiet [] d a b = refl
-heard_quiet (Nothing ∷ gs) d a b = heard_quiet gs d a b
-heard_quiet (BurstStarts ∷ gs) d a b = absurd (true≢false a)
-heard_quiet (BurstEnds ∷ gs) d a b = absurd (true≢false b)
-heard_quiet (Locked ∷ gs) d a b = heard_quiet gs d a b
-heard_quiet (Align1 ∷ gs) d a b = heard_quiet gs d a b
+heard_quiet (g ∷ gs) d a b = grind (arith, nat_tests, heard_quiet gs d)
 
 -- after a start a burst is heard
 pub risen-burst : (d : Detector) → (risen d).burst ≡ true
@@ -31,38 +27,22 @@ risen-in_burst d e = rw e
 -- in a burst nothing but its end changes anything
 pub heard-in_burst : (gs : List Sign) (d : Detector) → d.burst ≡ true → has BurstEnds gs ≡ false → heard gs d ≡ d
 heard-in_burst [] d a b = refl
-heard-in_burst (Nothing ∷ gs) d a b = heard-in_burst gs d a b
-heard-in_burst (BurstStarts ∷ gs) d a b = ap (heard gs) (risen-in_burst d a) ∙ heard-in_burst gs d a b
-heard-in_burst (BurstEnds ∷ gs) d a b = absurd (true≢false b)
-heard-in_burst (Locked ∷ gs) d a b = heard-in_burst gs d a b
-heard-in_burst (Align1 ∷ gs) d a b = heard-in_burst gs d a b
+heard-in_burst (g ∷ gs) d a b = grind (arith, nat_tests, heard-in_burst gs d)
 
 -- signs with a start and no end come to one start
 pub heard-start : (gs : List Sign) (d : Detector) → has BurstStarts gs ≡ true → has BurstEnds gs ≡ false → heard gs d ≡ risen d
 heard-start [] d a b = absurd (false≢true a)
-heard-start (Nothing ∷ gs) d a b = heard-start gs d a b
-heard-start (BurstStarts ∷ gs) d a b = heard-in_burst gs (risen d) (risen-burst d) b
-heard-start (BurstEnds ∷ gs) d a b = absurd (true≢false b)
-heard-start (Locked ∷ gs) d a b = heard-start gs d a b
-heard-start (Align1 ∷ gs) d a b = heard-start gs d a b
+heard-start (g ∷ gs) d a b = grind (arith, nat_tests, heard-start gs d, heard-in_burst gs (risen d), risen-burst d)
 
 -- after an end, signs without a start change nothing
 heard-ceased : (gs : List Sign) (d : Detector) → has BurstStarts gs ≡ false → heard gs (ceased d) ≡ ceased d
 heard-ceased [] d a = refl
-heard-ceased (Nothing ∷ gs) d a = heard-ceased gs d a
-heard-ceased (BurstStarts ∷ gs) d a = absurd (true≢false a)
-heard-ceased (BurstEnds ∷ gs) d a = heard-ceased gs d a
-heard-ceased (Locked ∷ gs) d a = heard-ceased gs d a
-heard-ceased (Align1 ∷ gs) d a = heard-ceased gs d a
+heard-ceased (g ∷ gs) d a = grind (arith, nat_tests, heard-ceased gs d)
 
 -- signs with an end and no start come to one end
 pub heard-end : (gs : List Sign) (d : Detector) → has BurstStarts gs ≡ false → has BurstEnds gs ≡ true → heard gs d ≡ ceased d
 heard-end [] d a b = absurd (false≢true b)
-heard-end (Nothing ∷ gs) d a b = heard-end gs d a b
-heard-end (BurstStarts ∷ gs) d a b = absurd (true≢false a)
-heard-end (BurstEnds ∷ gs) d a b = heard-ceased gs d a
-heard-end (Locked ∷ gs) d a b = heard-end gs d a b
-heard-end (Align1 ∷ gs) d a b = heard-end gs d a b
+heard-end (g ∷ gs) d a b = grind (arith, nat_tests, heard-end gs d, heard-ceased gs d)
 
 -- the detector's step when the other's activity goes from burst x to burst y
 abbrev pub hear : Bool → Bool → Detector → Detector

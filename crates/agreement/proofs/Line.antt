@@ -41,42 +41,45 @@ module _ (delay : ℕ) (hearer other : Life) (fair : Hears delay hearer other) w
   abbrev pub hearing : ℕ → Detector
   hearing t = ears signs t
 
-  -- a burst's start is noted just where one arrives
-  start-noted : (t u : ℕ) → Reaches delay hearer other t (suc u) → has BurstStarts (signs t) ≡ true → StartsBurst other u
-  start-noted t u r n =
-      let (v, p) = fair.start_sent t n in
-      let e : v ≡ u = omega (arith, p.0) in
-      subst (StartsBurst other) e p.1
+  -- an edge of a burst that was sent wherever its sign g is noted
+  module _ (g : Sign) (Edge : ℕ → Type 0)
+      (sent : (t : ℕ) → has g (signs t) ≡ true → (u : ℕ) × (Reaches delay hearer other t (suc u) × Edge u)) where
+    -- is noted just where one arrives
+    edge_noted : (t u : ℕ) → Reaches delay hearer other t (suc u) → has g (signs t) ≡ true → Edge u
+    edge_noted t u r n =
+        let (v, p) = sent t n in
+        let e : v ≡ u = omega (arith, p.0) in
+        subst Edge e p.1
 
-  -- a noted end of a burst is one that the other sent the delay before
-  end-noted : (t u : ℕ) → Reaches delay hearer other t (suc u) → has BurstEnds (signs t) ≡ true → EndsBurst other u
-  end-noted t u r n =
-      let (v, p) = fair.end_sent t n in
-      let e : v ≡ u = omega (arith, p.0) in
-      subst (EndsBurst other) e p.1
+    -- so where the other has none, none is noted
+    no_edge : (t u : ℕ) → Reaches delay hearer other t (suc u) → (Edge u → ⊥) → has g (signs t) ≡ false
+    no_edge t u r never = elim (cases_Bool (has g (signs t))) [ inl e ↦ absurd (never (edge_noted t u r e)) | inr e ↦ e ]
 
-  -- where the other starts no burst, none is noted
-  no_start : (t u : ℕ) → Reaches delay hearer other t (suc u) → (StartsBurst other u → ⊥) → has BurstStarts (signs t) ≡ false
-  no_start t u r never = elim (cases_Bool (has BurstStarts (signs t))) [ inl e ↦ absurd (never (start-noted t u r e)) | inr e ↦ e ]
-
-  -- and where it ends none, none is noted
-  no_end : (t u : ℕ) → Reaches delay hearer other t (suc u) → (EndsBurst other u → ⊥) → has BurstEnds (signs t) ≡ false
-  no_end t u r never = elim (cases_Bool (has BurstEnds (signs t))) [ inl e ↦ absurd (never (end-noted t u r e)) | inr e ↦ e ]
+    -- nor before anything of the other can arrive
+    no_edge_yet : (t : ℕ) → t + hearer.born ≤ other.born + delay → has g (signs t) ≡ false
+    no_edge_yet t le = elim (cases_Bool (has g (signs t)))
+        [ inl e ↦ (let (v, p) = sent t e in absurd (omega (arith, p.0))) | inr e ↦ e ]
 
   -- a tick's signs do to the detector what the other's bursts say
   slot : (t u : ℕ) → Reaches delay hearer other t (suc u) → 0 < t → t < age hearer.notes → suc u ≤ age other.notes →
       (d : Detector) → heard (signs t) d ≡ hear (bursting other u) (bursting other (suc u)) d
   slot t u r pos la lo d = go (bursting other u) (bursting other (suc u)) refl refl
     where
+      no_start : (StartsBurst other u → ⊥) → has BurstStarts (signs t) ≡ false
+      no_start = no_edge BurstStarts (StartsBurst other) fair.start_sent t u r
+
+      no_end : (EndsBurst other u → ⊥) → has BurstEnds (signs t) ≡ false
+      no_end = no_edge BurstEnds (EndsBurst other) fair.end_sent t u r
+
       go : (x y : Bool) → bursting other u ≡ x → bursting other (suc u) ≡ y → heard (signs t) d ≡ hear x y d
-      go false false x y = heard_quiet (signs t) d (no_start t u r (λ p. both_ways (bursting other (suc u)) y p.1))
-          (no_end t u r (λ p. both_ways (bursting other u) x p.0))
+      go false false x y = heard_quiet (signs t) d (no_start (λ p. both_ways (bursting other (suc u)) y p.1))
+          (no_end (λ p. both_ways (bursting other u) x p.0))
       go false true x y = heard-start (signs t) d (fair.start_heard t u r (x, y) lo pos la)
-          (no_end t u r (λ p. both_ways (bursting other u) x p.0))
-      go true false x y = heard-end (signs t) d (no_start t u r (λ p. both_ways (bursting other u) p.0 x))
+          (no_end (λ p. both_ways (bursting other u) x p.0))
+      go true false x y = heard-end (signs t) d (no_start (λ p. both_ways (bursting other u) p.0 x))
           (fair.end_heard t u r (x, y) lo pos la)
-      go true true x y = heard_quiet (signs t) d (no_start t u r (λ p. both_ways (bursting other u) p.0 x))
-          (no_end t u r (λ p. both_ways (bursting other (suc u)) p.1 y))
+      go true true x y = heard_quiet (signs t) d (no_start (λ p. both_ways (bursting other u) p.0 x))
+          (no_end (λ p. both_ways (bursting other (suc u)) p.1 y))
 
   -- the detector follows the other's bursts
   pub follows : (t u : ℕ) → Reaches delay hearer other t u → (j : ℕ) → t + j < age hearer.notes → u + j ≤ age other.notes →
@@ -100,15 +103,8 @@ module _ (delay : ℕ) (hearer other : Life) (fair : Hears delay hearer other) w
 
   -- before anything of the other can arrive, no edge is noted
   quiet_slot : (t : ℕ) → t + hearer.born ≤ other.born + delay → (d : Detector) → heard (signs t) d ≡ d
-  quiet_slot t le d = heard_quiet (signs t) d a b
-    where
-      a : has BurstStarts (signs t) ≡ false
-      a = elim (cases_Bool (has BurstStarts (signs t)))
-          [ inl e ↦ (let (v, p) = fair.start_sent t e in absurd (omega (arith, p.0))) | inr e ↦ e ]
-
-      b : has BurstEnds (signs t) ≡ false
-      b = elim (cases_Bool (has BurstEnds (signs t)))
-          [ inl e ↦ (let (v, p) = fair.end_sent t e in absurd (omega (arith, p.0))) | inr e ↦ e ]
+  quiet_slot t le d = heard_quiet (signs t) d
+      (no_edge_yet BurstStarts (StartsBurst other) fair.start_sent t le) (no_edge_yet BurstEnds (EndsBurst other) fair.end_sent t le)
 
   -- so until then nothing is detected
   pub blank : (t : ℕ) → t + hearer.born ≤ other.born + delay → Blank (hearing t)
@@ -137,7 +133,7 @@ module _ (delay : ℕ) (hearer other : Life) (fair : Hears delay hearer other) w
         not_fallen = refl;
         once = λ e. absurd (false≢true e);
         fresh = λ _. (refl, refl);
-        held = λ e. sym b ∙ subst (λ z. bursting other z ≡ true) u' (start-noted 0 (u - 1) (omega arith) (p.1 e refl)).1;
+        held = λ e. sym b ∙ subst (λ z. bursting other z ≡ true) u' (edge_noted BurstStarts (StartsBurst other) fair.start_sent 0 (u - 1) (omega arith) (p.1 e refl)).1;
         recent = λ _ _ _. omega arith;
       })
 

@@ -1,12 +1,13 @@
 -- How one end goes from tick to tick, phase by phase.
-use Rattle.std.proofs.Common.{◌≡◌, ℕ, zero, suc, ◌<◌, Bool, true, false, cond, ◌&&◌, ◌||◌, ltb, leb, List, [], ◌∷◌, Some, None, Option, sym, refl, ap, ◌∙◌, arith}
-use Rattle.std.proofs.lemmas.Bool.{cond-false, lt-ltb, and_right}
+use Rattle.std.proofs.Common.{◌≡◌, ℕ, zero, suc, ◌<◌, Bool, true, false, cond, ◌&&◌, ◌||◌, ltb, leb, List, [], ◌∷◌, Some, Option, refl, ap, ◌∙◌, arith}
+use Rattle.std.proofs.lemmas.Bool.{lt-ltb}
 use Rattle.std.proofs.lemmas.Bool.Decides.{nat_tests}
 use Rattle.bringup.specs.declared.detector.Detector.{Detector}
 use Rattle.bringup.specs.declared.end.Phase.{Phase}
 use Rattle.bringup.specs.declared.end.Phase.TheVariants.{SendingCominit, Awaiting, SendingComsas, Falling, Negotiating}
 use Rattle.bringup.specs.declared.rate.Rate.TheVariants.{G1}
 use Rattle.bringup.specs.declared.rate.RateSet.{RateSet}
+use Rattle.bringup.specs.declared.end.Standing.TheVariants.{AfterInvalid}
 use Rattle.bringup.specs.declared.end.Window.{Window}
 use Rattle.bringup.specs.declared.end.End.{End}
 use Rattle.bringup.specs.declared.end.Sign.{Sign}
@@ -49,26 +50,10 @@ pub ears_suc : (h : ℕ → List Sign) (t : ℕ) → ears h (suc t) ≡ heard (h
 unfolding ears
 ears_suc h t = refl
 
--- outside windows a lock does nothing
-lock_outside : (s : RateSet) (p : Phase) (k : ℕ) (d : Detector) (w : Option Window) → is_negotiating p ≡ false →
-    signed Locked (make s p k d w) ≡ make s p k d w
-lock_outside s p k d None n = refl
-lock_outside s p k d (Some w) n = rw n
-
--- and neither does an ALIGN(1)
-align_outside : (s : RateSet) (p : Phase) (k : ℕ) (d : Detector) (w : Option Window) → is_negotiating p ≡ false →
-    signed Align1 (make s p k d w) ≡ make s p k d w
-align_outside s p k d None n = refl
-align_outside s p k d (Some w) n = rw n
-
 -- signs reach the detector alone, but where the end waits or negotiates
 pub sign_other : (g : Sign) (s : RateSet) (p : Phase) (k : ℕ) (d : Detector) (w : Option Window) →
     is_awaiting p ≡ false → is_negotiating p ≡ false → signed g (make s p k d w) ≡ make s p k (heard_one g d) w
-sign_other Nothing s p k d w a n = refl
-sign_other BurstStarts s p k d w a n = rw a
-sign_other BurstEnds s p k d w a n = refl
-sign_other Locked s p k d w a n = lock_outside s p k d w n
-sign_other Align1 s p k d w a n = align_outside s p k d w n
+sign_other g s p k d w a n = grind (arith, nat_tests)
 
 -- where a phase has no place for signs, they reach the detector alone
 pub signs_other : (gs : List Sign) (s : RateSet) (p : Phase) (k : ℕ) (d : Detector) (w : Option Window) →
@@ -109,23 +94,15 @@ pub sign-waiting : (g : Sign) (s : RateSet) (k : ℕ) (d : Detector) (w : Option
     signed g (waiting s k d w) ≡ waiting s k (heard_one g d) w
 sign-waiting g s k d w = go (signalled d) refl
   where
+    kept : (g : Sign) → signalled d ≡ true → signalled (heard_one g d) ≡ true
+    kept g e = grind (arith, nat_tests, risen-signalled d e)
+
     go : (b : Bool) → signalled d ≡ b → signed g (waiting s k d w) ≡ waiting s k (heard_one g d) w
-    go true e = rw (e, kept g) (sign_other g s SendingComsas 0 d w refl refl)
-      where
-        kept : (g : Sign) → signalled (heard_one g d) ≡ true
-        kept Nothing = e
-        kept BurstStarts = risen-signalled d e
-        kept BurstEnds = e
-        kept Locked = e
-        kept Align1 = e
+    go true e = rw (e, kept g e) (sign_other g s SendingComsas 0 d w refl refl)
     go false e = rw e (one g)
       where
         one : (g : Sign) → signed g (make s Awaiting k d w) ≡ waiting s k (heard_one g d) w
-        one Nothing = sym (cond-false (signalled d) (make s SendingComsas 0 d w) (make s Awaiting k d w) e)
-        one BurstStarts = refl
-        one BurstEnds = sym (cond-false (signalled d) (make s SendingComsas 0 (ceased d) w) (make s Awaiting k (ceased d) w) e)
-        one Locked = lock_outside s Awaiting k d w refl ∙ sym (cond-false (signalled d) (make s SendingComsas 0 d w) (make s Awaiting k d w) e)
-        one Align1 = align_outside s Awaiting k d w refl ∙ sym (cond-false (signalled d) (make s SendingComsas 0 d w) (make s Awaiting k d w) e)
+        one g = grind (arith, nat_tests)
 
 -- the same of all signs of a tick, one after the other
 pub signs_waiting : (gs : List Sign) (s : RateSet) (k : ℕ) (d : Detector) (w : Option Window) →
@@ -153,7 +130,7 @@ comsas_step gs s k d w h =
 
 -- the first window as it opens
 abbrev pub first_window : Window
-first_window = record { rate = G1; last = false; follows = false; locked = false; aligned = false }
+first_window = record { rate = G1; standing = AfterInvalid; locked = false; aligned = false }
 
 -- COMSAS ends; without a fall the end waits for it
 pub comsas_end : (gs : List Sign) (s : RateSet) (d : Detector) (w : Option Window) → (passed d).fallen ≡ false →
@@ -212,14 +189,7 @@ window_step gs s k d w h =
 -- no lock counts as a window opens
 pub window_opens : (gs : List Sign) (s : RateSet) (w : Window) → w.locked ≡ false → window_all gs s 0 w ≡ w
 window_opens [] s w e = refl
-window_opens (g ∷ gs) s w e = ap (window_all gs s 0) (one g) ∙ window_opens gs s w e
-  where
-    one : (g : Sign) → window_one g s 0 w ≡ w
-    one Nothing = refl
-    one BurstStarts = refl
-    one BurstEnds = refl
-    one Locked = cond-false (in_time s 0 w) (locked_window w) w (and_right (supports s w.rate) false refl)
-    one Align1 = cond-false w.locked (aligned_window w) w e
+window_opens (g ∷ gs) s w e = grind (arith, nat_tests, window_opens gs s w e)
 
 -- in the tick that opens a window no lock counts, so its signs change nothing of it
 pub signs_opening : (gs : List Sign) (s : RateSet) (d : Detector) (w : Window) → w.locked ≡ false →

@@ -4,6 +4,7 @@ use Rattle.std.proofs.lemmas.Bool.{both_ways, true≢false, false≢true, cases_
 use Rattle.bringup.specs.declared.end.Phase.{Phase}
 use Rattle.bringup.specs.declared.end.Phase.TheVariants.{Negotiating, Ready, Failed}
 use Rattle.bringup.specs.declared.rate.Rate.{Rate}
+use Rattle.bringup.specs.declared.end.Standing.TheVariants.{AfterInvalid, AfterValid, Final}
 use Rattle.bringup.specs.declared.end.Window.{Window}
 use Rattle.bringup.specs.declared.end.Sign.TheVariants.{Locked}
 use Rattle.bringup.specs.declared.end.Activity.TheVariants.{Idle}
@@ -11,7 +12,7 @@ use Rattle.bringup.specs.Rates.{supports, next_rate, previous_rate, past_highest
 use Rattle.bringup.specs.Asking.{activity, latest_rate, outcome_in}
 use Rattle.agreement.specs.FairLine.{Life, Hears, state_at, rate_at, present, present_rate, age, signs_at, Over, is_over, BothReady, BothFailed, shared, OpensWindow, LocksInTime, has}
 use Rattle.agreement.proofs.Stages.{In}
-use Rattle.agreement.proofs.Windows.{current, window_stage, open_rate, lock_noted, locked_since, fresh_window, is_align1, closes_ready, closes_failed, closes_valid, closes_back, closes_gives_up, closes_next, over_stays}
+use Rattle.agreement.proofs.Windows.{current, window_stage, open_rate, lock_noted, locked_since, fresh_window, after, is_align1, closes_ready, closes_failed, closes_valid, closes_back, closes_gives_up, closes_next, over_stays}
 use Rattle.agreement.proofs.RateOrder.{Within, within_step, at_least_one, at_most_four, rate_same, next_differs, previous_differs, supported_next, supported_above}
 use Rattle.agreement.proofs.Pair.{At, Silent, SilentBefore, invalid_alone, valid_both_locked, both_locked_valid}
 
@@ -78,24 +79,24 @@ module _ (x : Life) where
 -- An end whose partner has failed fails too
 module _ (delay : ℕ) (short : delay ≤ 7000) (x y : Life) (fair : Hears delay x y) (f : ℕ) where
   -- an invalid window of an end that hears no ALIGN(1): it fails, or the same holds of the next
-  alone_step : (n : ℕ) (r : Rate) (o : ℕ) → At x o (fresh_window r false false) → Within x.rates r → Silent y f r →
+  alone_step : (n : ℕ) (r : Rate) (o : ℕ) → At x o (fresh_window r AfterInvalid) → Within x.rates r → Silent y f r →
       f + y.born ≤ o + x.born + delay → Lasting x o (suc n) →
-      (rate_number (next_rate r) ≡ suc (rate_number r) → Within x.rates (next_rate r) → At x (o + 328640) (fresh_window (next_rate r) false false) →
+      (rate_number (next_rate r) ≡ suc (rate_number r) → Within x.rates (next_rate r) → At x (o + 328640) (fresh_window (next_rate r) AfterInvalid) →
       o + 328640 ≤ age x.notes → (present x).phase ≡ Failed) →
       (present x).phase ≡ Failed
   alone_step n r o e within silent near lasting onward =
-      let w : Window = fresh_window r false false in
+      let w : Window = fresh_window r AfterInvalid in
       let c : o + 328640 ≤ age x.notes = lasting_closes x o n w refl refl e lasting in
       let v = invalid_alone delay short x y fair w refl refl o e f near silent in
       elim (cases_Bool (past_highest x.rates r)) [
         | inl p ↦ ends_failed x (o + 328640) (current (signs_at x.notes) x.rates o w refl refl e 328639)
-            (closes_gives_up (signs_at x.notes) x.rates o w refl refl e refl v refl p) c
+            (closes_gives_up (signs_at x.notes) x.rates o w refl refl e refl v p) c
         | inr p ↦ (let s = within_step x.rates r within p in
-            onward s.0 s.1 (closes_next (signs_at x.notes) x.rates o w refl refl e refl v refl p) c)
+            onward s.0 s.1 (closes_next (signs_at x.notes) x.rates o w refl refl e refl v p) c)
       ]
 
   -- so it fails, after at most so many windows as rates are left
-  pub alone : (n : ℕ) (r : Rate) (o : ℕ) → At x o (fresh_window r false false) → 4 ≤ rate_number r + n → Within x.rates r →
+  pub alone : (n : ℕ) (r : Rate) (o : ℕ) → At x o (fresh_window r AfterInvalid) → 4 ≤ rate_number r + n → Within x.rates r →
       ((q : Rate) → rate_number r ≤ rate_number q → Silent y f q) → f + y.born ≤ o + x.born + delay → Lasting x o (suc n) → (present x).phase ≡ Failed
   alone zero r o e enough within silent near lasting =
       alone_step zero r o e within (silent r (omega arith)) near lasting
@@ -192,10 +193,10 @@ module _ (delay : ℕ) (short : delay ≤ 7000) (a b : Life) (fair-a : Hears del
   both_failed p q never = (inr (ap outcome_in p, ap outcome_in q), λ h. absurd (never h))
 
   -- the last window
-  settle_last : (r : Rate) (oa ob : ℕ) → Joint delay a b oa ob (fresh_window r true false) → Lasting a oa 1 → Lasting b ob 1 →
+  settle_last : (r : Rate) (oa ob : ℕ) → Joint delay a b oa ob (fresh_window r Final) → Lasting a oa 1 → Lasting b ob 1 →
       Result ((shared a b r ≡ true) × Locks)
   settle_last r oa ob j la lb =
-      let w : Window = fresh_window r true false in
+      let w : Window = fresh_window r Final in
       let ca : oa + 328640 ≤ age a.notes = lasting_closes a oa 0 w refl refl j.opens_a la in
       let cb : ob + 328640 ≤ age b.notes = lasting_closes b ob 0 w refl refl j.opens_b lb in
       elim (together delay short a b fair-a fair-b oa ob w refl refl j ca cb) [
@@ -232,33 +233,33 @@ module _ (delay : ℕ) (short : delay ≤ 7000) (a b : Life) (fair-a : Hears del
   lasting_one x o n l = (l.0, elim l.1 [ inl over ↦ inl over | inr long ↦ inr (omega arith) ])
 
   -- one window that is not the last, with what follows it
-  settle_step : (n : ℕ) (r : Rate) (av : Bool) (oa ob : ℕ) → Joint delay a b oa ob (fresh_window r false av) →
+  settle_step : (n : ℕ) (r : Rate) (av : Bool) (oa ob : ℕ) → Joint delay a b oa ob (fresh_window r (after av)) →
       4 ≤ rate_number r + n → (av ≡ true → 2 ≤ rate_number r) → (av ≡ false → Within a.rates r × Within b.rates r) →
       Lasting a oa (suc (suc n)) → Lasting b ob (suc (suc n)) →
-      ((next : Bool) → rate_number (next_rate r) ≡ suc (rate_number r) → Joint delay a b (oa + 328640) (ob + 328640) (fresh_window (next_rate r) false next) →
+      ((next : Bool) → rate_number (next_rate r) ≡ suc (rate_number r) → Joint delay a b (oa + 328640) (ob + 328640) (fresh_window (next_rate r) (after next)) →
       (next ≡ false → Within a.rates (next_rate r) × Within b.rates (next_rate r)) →
       oa + 328640 ≤ age a.notes → ob + 328640 ≤ age b.notes → Result (Hope (next_rate r) next)) →
       Result (Hope r av)
   settle_step n r av oa ob j enough pos within la lb onward =
-      elim (together delay short a b fair-a fair-b oa ob (fresh_window r false av) refl refl j ca cb) [ inl p ↦ was_valid p | inr p ↦ was_invalid av refl p ]
+      elim (together delay short a b fair-a fair-b oa ob (fresh_window r (after av)) refl refl j ca cb) [ inl p ↦ was_valid p | inr p ↦ was_invalid av refl p ]
     where
       ca : oa + 328640 ≤ age a.notes
-      ca = lasting_closes a oa (suc n) (fresh_window r false av) refl refl j.opens_a la
+      ca = lasting_closes a oa (suc n) (fresh_window r (after av)) refl refl j.opens_a la
 
       cb : ob + 328640 ≤ age b.notes
-      cb = lasting_closes b ob (suc n) (fresh_window r false av) refl refl j.opens_b lb
+      cb = lasting_closes b ob (suc n) (fresh_window r (after av)) refl refl j.opens_b lb
 
       a_valid? : Bool
-      a_valid? = (wa delay short a b fair-a fair-b oa ob (fresh_window r false av) refl refl j ca cb).aligned
+      a_valid? = (wa delay short a b fair-a fair-b oa ob (fresh_window r (after av)) refl refl j ca cb).aligned
 
       b_valid? : Bool
-      b_valid? = (wb delay short a b fair-a fair-b oa ob (fresh_window r false av) refl refl j ca cb).aligned
+      b_valid? = (wb delay short a b fair-a fair-b oa ob (fresh_window r (after av)) refl refl j ca cb).aligned
 
       was_valid : ((a_valid? ≡ true) × (b_valid? ≡ true) × (supports a.rates r ≡ true) × (supports b.rates r ≡ true)) → Result (Hope r av)
       was_valid p =
           let s = supported_next a.rates r p.2 in
-          let next = joint_next delay short a b fair-a fair-b oa ob (fresh_window r false av) refl refl j ca cb (fresh_window (next_rate r) false true)
-          (closes_valid (signs_at a.notes) a.rates oa (fresh_window r false av) refl refl j.opens_a refl p.0) (closes_valid (signs_at b.notes) b.rates ob (fresh_window r false av) refl refl j.opens_b refl p.1) (λ d. next_differs r s.0 (cc d)) in
+          let next = joint_next delay short a b fair-a fair-b oa ob (fresh_window r (after av)) refl refl j ca cb (fresh_window (next_rate r) AfterValid)
+          (closes_valid (signs_at a.notes) a.rates oa (fresh_window r (after av)) refl refl j.opens_a av refl p.0) (closes_valid (signs_at b.notes) b.rates ob (fresh_window r (after av)) refl refl j.opens_b av refl p.1) (λ d. next_differs r s.0 (cc d)) in
           let res = onward true s.0 next (λ e. absurd (true≢false e)) ca cb in
           (res.0, λ h. res.1 (h.0, ((λ _. ap (shared a b) s.1 ∙ and_from (supports a.rates r) (supports b.rates r) p.2 p.3), λ e. absurd (true≢false e))))
 
@@ -270,7 +271,7 @@ module _ (delay : ℕ) (short : delay ≤ 7000) (a b : Life) (fair-a : Hears del
             | inl lt ↦ (q, (t.0, lt))
             | inr ge ↦
                 (let same : q ≡ r = rate_same q r (omega (arith, t.1)) in
-                absurd (true≢false (sym (shared-valid delay short a b fair-a fair-b oa ob (fresh_window r false av) refl refl j ca cb (subst (λ z. shared a b z ≡ true) same t.0) h.0.0 h.0.1) ∙ n)))
+                absurd (true≢false (sym (shared-valid delay short a b fair-a fair-b oa ob (fresh_window r (after av)) refl refl j ca cb (subst (λ z. shared a b z ≡ true) same t.0) h.0.0 h.0.1) ∙ n)))
           ]
 
       hope_a : av ≡ false → a_valid? ≡ false → past_highest a.rates r ≡ true → Hope r av → ⊥
@@ -283,50 +284,50 @@ module _ (delay : ℕ) (short : delay ≤ 7000) (a b : Life) (fair-a : Hears del
           let (q, t) = hope_above e n h in
           both_ways (past_highest b.rates r) (supported_above b.rates r q (and_parts (supports a.rates q) (supports b.rates q) t.0).1 t.1) p
 
-      gives_up_a : av ≡ false → a_valid? ≡ false → past_highest a.rates r ≡ true → In (signs_at a.notes) a.rates (oa + 328640) Failed 0 (Some (current (signs_at a.notes) a.rates oa (fresh_window r false av) refl refl j.opens_a 328639))
-      gives_up_a e n p = closes_gives_up (signs_at a.notes) a.rates oa (fresh_window r false av) refl refl j.opens_a refl n e p
+      gives_up_a : av ≡ false → a_valid? ≡ false → past_highest a.rates r ≡ true → In (signs_at a.notes) a.rates (oa + 328640) Failed 0 (Some (current (signs_at a.notes) a.rates oa (fresh_window r (after av)) refl refl j.opens_a 328639))
+      gives_up_a e n p = closes_gives_up (signs_at a.notes) a.rates oa (fresh_window r (after av)) refl refl j.opens_a (ap after e) n p
 
-      gives_up_b : av ≡ false → b_valid? ≡ false → past_highest b.rates r ≡ true → In (signs_at b.notes) b.rates (ob + 328640) Failed 0 (Some (current (signs_at b.notes) b.rates ob (fresh_window r false av) refl refl j.opens_b 328639))
-      gives_up_b e n p = closes_gives_up (signs_at b.notes) b.rates ob (fresh_window r false av) refl refl j.opens_b refl n e p
+      gives_up_b : av ≡ false → b_valid? ≡ false → past_highest b.rates r ≡ true → In (signs_at b.notes) b.rates (ob + 328640) Failed 0 (Some (current (signs_at b.notes) b.rates ob (fresh_window r (after av)) refl refl j.opens_b 328639))
+      gives_up_b e n p = closes_gives_up (signs_at b.notes) b.rates ob (fresh_window r (after av)) refl refl j.opens_b (ap after e) n p
 
       a_alone : av ≡ false → a_valid? ≡ false → b_valid? ≡ false → past_highest a.rates r ≡ false → past_highest b.rates r ≡ true → (present a).phase ≡ Failed
       a_alone e na nb pa pb =
           let s = within_step a.rates r (within e).0 pa in
-          alone delay short a b fair-a (ob + 328640) n (next_rate r) (oa + 328640) (closes_next (signs_at a.notes) a.rates oa (fresh_window r false av) refl refl j.opens_a refl na e pa) (omega (arith, s.0)) s.1
-          (λ q le. failed_silent b ob (fresh_window r false av) (current (signs_at b.notes) b.rates ob (fresh_window r false av) refl refl j.opens_b 328639) refl refl j.opens_b (gives_up_b e nb pb) q
+          alone delay short a b fair-a (ob + 328640) n (next_rate r) (oa + 328640) (closes_next (signs_at a.notes) a.rates oa (fresh_window r (after av)) refl refl j.opens_a (ap after e) na pa) (omega (arith, s.0)) s.1
+          (λ q le. failed_silent b ob (fresh_window r (after av)) (current (signs_at b.notes) b.rates ob (fresh_window r (after av)) refl refl j.opens_b 328639) refl refl j.opens_b (gives_up_b e nb pb) q
           (λ d. let z : r ≡ q = cc d in omega (arith, ap rate_number z, s.0)))
           (omega (arith, j.near_a)) (lasting_next a oa (suc n) ca la)
 
       b_alone : av ≡ false → a_valid? ≡ false → b_valid? ≡ false → past_highest a.rates r ≡ true → past_highest b.rates r ≡ false → (present b).phase ≡ Failed
       b_alone e na nb pa pb =
           let s = within_step b.rates r (within e).1 pb in
-          alone delay short b a fair-b (oa + 328640) n (next_rate r) (ob + 328640) (closes_next (signs_at b.notes) b.rates ob (fresh_window r false av) refl refl j.opens_b refl nb e pb) (omega (arith, s.0)) s.1
-          (λ q le. failed_silent a oa (fresh_window r false av) (current (signs_at a.notes) a.rates oa (fresh_window r false av) refl refl j.opens_a 328639) refl refl j.opens_a (gives_up_a e na pa) q
+          alone delay short b a fair-b (oa + 328640) n (next_rate r) (ob + 328640) (closes_next (signs_at b.notes) b.rates ob (fresh_window r (after av)) refl refl j.opens_b (ap after e) nb pb) (omega (arith, s.0)) s.1
+          (λ q le. failed_silent a oa (fresh_window r (after av)) (current (signs_at a.notes) a.rates oa (fresh_window r (after av)) refl refl j.opens_a 328639) refl refl j.opens_a (gives_up_a e na pa) q
           (λ d. let z : r ≡ q = cc d in omega (arith, ap rate_number z, s.0)))
           (omega (arith, j.near_b)) (lasting_next b ob (suc n) cb lb)
 
       was_invalid : (v : Bool) → av ≡ v → ((a_valid? ≡ false) × (b_valid? ≡ false)) → Result (Hope r av)
       was_invalid true e p =
-          let back = joint_next delay short a b fair-a fair-b oa ob (fresh_window r false av) refl refl j ca cb (fresh_window (previous_rate r) true false)
-          (closes_back (signs_at a.notes) a.rates oa (fresh_window r false av) refl refl j.opens_a refl p.0 e) (closes_back (signs_at b.notes) b.rates ob (fresh_window r false av) refl refl j.opens_b refl p.1 e) (λ d. previous_differs r (pos e) (cc d)) in
+          let back = joint_next delay short a b fair-a fair-b oa ob (fresh_window r (after av)) refl refl j ca cb (fresh_window (previous_rate r) Final)
+          (closes_back (signs_at a.notes) a.rates oa (fresh_window r (after av)) refl refl j.opens_a (ap after e) p.0) (closes_back (signs_at b.notes) b.rates ob (fresh_window r (after av)) refl refl j.opens_b (ap after e) p.1) (λ d. previous_differs r (pos e) (cc d)) in
           let res = settle_last (previous_rate r) (oa + 328640) (ob + 328640) back
           (lasting_one a (oa + 328640) n (lasting_next a oa (suc n) ca la)) (lasting_one b (ob + 328640) n (lasting_next b ob (suc n) cb lb)) in
           (res.0, λ h. res.1 (h.1.0 e, h.0))
       was_invalid false e p = elim (cases_Bool (past_highest a.rates r)) [
         | inl pa ↦ elim (cases_Bool (past_highest b.rates r)) [
-          | inl pb ↦ both_failed (ends_failed a (oa + 328640) (current (signs_at a.notes) a.rates oa (fresh_window r false av) refl refl j.opens_a 328639) (gives_up_a e p.0 pa) ca)
-              (ends_failed b (ob + 328640) (current (signs_at b.notes) b.rates ob (fresh_window r false av) refl refl j.opens_b 328639) (gives_up_b e p.1 pb) cb) (hope_a e p.0 pa)
-          | inr pb ↦ both_failed (ends_failed a (oa + 328640) (current (signs_at a.notes) a.rates oa (fresh_window r false av) refl refl j.opens_a 328639) (gives_up_a e p.0 pa) ca)
+          | inl pb ↦ both_failed (ends_failed a (oa + 328640) (current (signs_at a.notes) a.rates oa (fresh_window r (after av)) refl refl j.opens_a 328639) (gives_up_a e p.0 pa) ca)
+              (ends_failed b (ob + 328640) (current (signs_at b.notes) b.rates ob (fresh_window r (after av)) refl refl j.opens_b 328639) (gives_up_b e p.1 pb) cb) (hope_a e p.0 pa)
+          | inr pb ↦ both_failed (ends_failed a (oa + 328640) (current (signs_at a.notes) a.rates oa (fresh_window r (after av)) refl refl j.opens_a 328639) (gives_up_a e p.0 pa) ca)
               (b_alone e p.0 p.1 pa pb) (hope_a e p.0 pa)
         ]
         | inr pa ↦ elim (cases_Bool (past_highest b.rates r)) [
           | inl pb ↦ both_failed (a_alone e p.0 p.1 pa pb)
-              (ends_failed b (ob + 328640) (current (signs_at b.notes) b.rates ob (fresh_window r false av) refl refl j.opens_b 328639) (gives_up_b e p.1 pb) cb) (hope_b e p.0 pb)
+              (ends_failed b (ob + 328640) (current (signs_at b.notes) b.rates ob (fresh_window r (after av)) refl refl j.opens_b 328639) (gives_up_b e p.1 pb) cb) (hope_b e p.0 pb)
           | inr pb ↦
               (let sa = within_step a.rates r (within e).0 pa in
               let sb = within_step b.rates r (within e).1 pb in
-              let next = joint_next delay short a b fair-a fair-b oa ob (fresh_window r false av) refl refl j ca cb (fresh_window (next_rate r) false false)
-              (closes_next (signs_at a.notes) a.rates oa (fresh_window r false av) refl refl j.opens_a refl p.0 e pa) (closes_next (signs_at b.notes) b.rates ob (fresh_window r false av) refl refl j.opens_b refl p.1 e pb) (λ d. next_differs r sa.0 (cc d)) in
+              let next = joint_next delay short a b fair-a fair-b oa ob (fresh_window r (after av)) refl refl j ca cb (fresh_window (next_rate r) AfterInvalid)
+              (closes_next (signs_at a.notes) a.rates oa (fresh_window r (after av)) refl refl j.opens_a (ap after e) p.0 pa) (closes_next (signs_at b.notes) b.rates ob (fresh_window r (after av)) refl refl j.opens_b (ap after e) p.1 pb) (λ d. next_differs r sa.0 (cc d)) in
               let res = onward false sa.0 next (λ _. (sa.1, sb.1)) ca cb in (
                 res.0,
                 λ h. res.1 (
@@ -342,7 +343,7 @@ module _ (delay : ℕ) (short : delay ≤ 7000) (a b : Life) (fair-a : Hears del
       ]
 
   -- so with enough windows left two ends that open one together come to one outcome
-  pub settle : (n : ℕ) (r : Rate) (av : Bool) (oa ob : ℕ) → Joint delay a b oa ob (fresh_window r false av) →
+  pub settle : (n : ℕ) (r : Rate) (av : Bool) (oa ob : ℕ) → Joint delay a b oa ob (fresh_window r (after av)) →
       4 ≤ rate_number r + n → (av ≡ true → 2 ≤ rate_number r) → (av ≡ false → Within a.rates r × Within b.rates r) →
       Lasting a oa (suc (suc n)) → Lasting b ob (suc (suc n)) → Result (Hope r av)
   settle zero r av oa ob j enough pos within la lb =

@@ -15,7 +15,7 @@ use Rattle.bringup.specs.Bringup.{tick, later, signalled, begun}
 use Rattle.bringup.specs.Asking.{activity, sending, in_burst}
 use Rattle.bringup.specs.Detection.{deaf}
 use Rattle.agreement.specs.FairLine.{all_signed, after, is_burst, is_over}
-use Rattle.agreement.proofs.Trains.{cominit_past, comsas_off, risen_fallen, passed_fallen_stays, passed_same}
+use Rattle.agreement.proofs.Trains.{burst_past, burst_off, risen_fallen, passed_fallen_stays, passed_same}
 use Rattle.agreement.proofs.Machine.{make, heard, ears, ears_zero, ears_suc, waiting, first_window, risen_comsas, risen-signalled, signs_other, cominit_step, cominit_end, waiting_step, comsas_step, comsas_end, falling_step, comsas_open, falling_open}
 
 module _ (h : ℕ → List Sign) (s : RateSet) where
@@ -117,7 +117,7 @@ module _ (h : ℕ → List Sign) (s : RateSet) where
   sends_cominit x quiet i le = elim (cases_lt i 9255) [
     | inl lt ↦ bursts_of i (make s SendingCominit i (ears h i) None) (cominit_stage i lt) ∙ sent-burst (in_burst 960 i)
     | inr ge ↦ (let (k, e) = waiting_at i ge (λ j a b. quiet j a (omega arith)) in
-        bursts_of i (waiting s k (ears h i) None) e ∙ waiting_silent k (ears h i) None ∙ sym (cominit_past i (omega arith)))
+        bursts_of i (waiting s k (ears h i) None) e ∙ waiting_silent k (ears h i) None ∙ sym (burst_past 960 i (omega arith)))
   ]
 
   module _ (c : ℕ) (begins : Begins c) where
@@ -137,7 +137,7 @@ module _ (h : ℕ → List Sign) (s : RateSet) where
       | inl l ↦ sends_cominit c begins.not_before i (omega arith)
       | inr g ↦ (let e : c + (i - c) ≡ i = omega arith in
           subst (λ z. bursts z ≡ in_burst 960 z) e (sends_comsas (i - c) (omega arith)
-          ∙ comsas_off (i - c) (omega arith) ∙ sym (cominit_past (c + (i - c)) (omega (arith, begins.after_cominit)))))
+          ∙ burst_off 2880 (i - c) (omega arith) ∙ sym (burst_past 960 (c + (i - c)) (omega (arith, begins.after_cominit)))))
     ]
 
   -- From COMSAS to the first window

@@ -1,48 +1,31 @@
 -- What a detector makes of COMINIT and COMSAS.
-use Rattle.std.proofs.Common.{◌≡◌, ℕ, zero, suc, ◌+◌, ◌*◌, ◌%◌, ◌<◌, ◌≤◌, Bool, true, false, ◌&&◌, ltb, leb, ◌⊎◌, Some, None, Option, sym, refl, ap, ◌∙◌, subst, inl, inr, add-zero, add-suc, arith}
-use Rattle.std.proofs.lemmas.Bool.{cond-true, cond_both, lt-ltb, le-ltb, lt-leb, le-leb, and_right, and_left, and_from, and_parts, and_cases, ltb-true, leb-true, ltb-false, leb-false, both_ways, true≢false, false≢true, cases_Bool, cases_lt}
+use Rattle.std.proofs.Common.{◌≡◌, ℕ, zero, suc, ◌+◌, ◌*◌, ◌%◌, ◌<◌, ◌≤◌, Bool, true, false, ◌&&◌, ltb, leb, None, Option, sym, refl, ap, ◌∙◌, subst, inl, inr, add-zero, add-suc, arith}
+use Rattle.std.proofs.lemmas.Bool.{cond-true, lt-leb, and_right, and_left, and_from, and_parts, ltb-true, leb-true, both_ways, true≢false, false≢true, cases_Bool, cases_lt}
 use Rattle.std.proofs.lemmas.Bool.Decides.{nat_tests}
 use Rattle.bringup.specs.declared.detector.Detector.{Detector}
 use Rattle.bringup.specs.declared.signal.Signal.{Signal}
-use Rattle.bringup.specs.declared.signal.Signal.TheVariants.{Comsas}
-use Rattle.bringup.specs.Detection.{passed, risen, ceased, more, signal_of, alike_after, closed, is_comsas}
+use Rattle.bringup.specs.Detection.{passed, risen, ceased, signal_of, alike_after, closed, is_comsas}
+use Rattle.bringup.specs.Signals.{burst}
 use Rattle.bringup.specs.Asking.{in_burst}
 use Rattle.agreement.proofs.Hearing.{hear, relay, relay_zero, relay_suc, relay_step, relay_split, shift, idled, passed-burst, stay_burst, stay_idle, periods, periods_burst, periods_fallen, comsas_detected, cominit_detected, train, risen-burst, hear_fallen}
 
--- the bursts of COMINIT and of COMSAS
-pub cominit_on : (u : ℕ) → u < 7680 → 960 ≤ u % 1280 → in_burst 960 u ≡ true
-cominit_on u a b = and_from (ltb u 7680) (leb 960 (u % 1280)) (lt-ltb u 7680 a) (le-leb 960 (u % 1280) b)
+-- a signal is in a burst past the idle of each of its six periods
+pub burst_on : (idle u : ℕ) → u < 6 * (idle + burst) → idle ≤ u % (idle + burst) → in_burst idle u ≡ true
+burst_on idle u a b = grind (arith, nat_tests)
 
--- COMINIT is idle in the first 960 ticks of each period
-pub cominit_off : (u : ℕ) → u % 1280 < 960 → in_burst 960 u ≡ false
-cominit_off u a = and_right (ltb u 7680) (leb 960 (u % 1280)) (lt-leb 960 (u % 1280) a)
+-- it is idle at the start of each
+pub burst_off : (idle u : ℕ) → u % (idle + burst) < idle → in_burst idle u ≡ false
+burst_off idle u a = grind (arith, nat_tests)
 
 -- and after its six periods
-pub cominit_past : (u : ℕ) → 7680 ≤ u → in_burst 960 u ≡ false
-cominit_past u a = and_left (ltb u 7680) (leb 960 (u % 1280)) (le-ltb u 7680 a)
+pub burst_past : (idle u : ℕ) → 6 * (idle + burst) ≤ u → in_burst idle u ≡ false
+burst_past idle u a = grind (arith, nat_tests)
 
 -- where it bursts, it is in a period and past its idle
-pub cominit_is_on : (u : ℕ) → in_burst 960 u ≡ true → (u < 7680) × (960 ≤ u % 1280)
-cominit_is_on u e =
-    let p = and_parts (ltb u 7680) (leb 960 (u % 1280)) e in
-    (ltb-true u 7680 p.0, leb-true 960 (u % 1280) p.1)
-
--- where it is idle, it is past its periods or in an idle
-pub cominit_is_off : (u : ℕ) → in_burst 960 u ≡ false → (7680 ≤ u) ⊎ (u % 1280 < 960)
-cominit_is_off u e = elim (and_cases (ltb u 7680) (leb 960 (u % 1280)) e)
-    [ inl p ↦ inl (ltb-false u 7680 p) | inr p ↦ inr (leb-false 960 (u % 1280) p) ]
-
--- COMSAS bursts past the idle of each of its six periods
-pub comsas_on : (u : ℕ) → u < 19200 → 2880 ≤ u % 3200 → in_burst 2880 u ≡ true
-comsas_on u a b = and_from (ltb u 19200) (leb 2880 (u % 3200)) (lt-ltb u 19200 a) (le-leb 2880 (u % 3200) b)
-
--- it is idle in the first 2,880 ticks of each
-pub comsas_off : (u : ℕ) → u % 3200 < 2880 → in_burst 2880 u ≡ false
-comsas_off u a = and_right (ltb u 19200) (leb 2880 (u % 3200)) (lt-leb 2880 (u % 3200) a)
-
--- and after its six periods
-pub comsas_past : (u : ℕ) → 19200 ≤ u → in_burst 2880 u ≡ false
-comsas_past u a = and_left (ltb u 19200) (leb 2880 (u % 3200)) (le-ltb u 19200 a)
+pub is_burst_on : (idle u : ℕ) → in_burst idle u ≡ true → (u < 6 * (idle + burst)) × (idle ≤ u % (idle + burst))
+is_burst_on idle u e =
+    let p = and_parts (ltb u (6 * (idle + burst))) (leb idle (u % (idle + burst))) e in
+    (ltb-true u (6 * (idle + burst)) p.0, leb-true idle (u % (idle + burst)) p.1)
 
 -- what a tick leaves
 pub passed_same : (d : Detector) →
@@ -96,7 +79,7 @@ early_first u d h lt x y =
     let c : (closed k (alike_after k (passed d).signal (passed d).alike) (passed d)).comsas ≡ false =
     closed_no_comsas k (alike_after k (passed d).signal (passed d).alike) (passed d) (same.4 ∙ h.no_comsas)
     (and_right (is_comsas k) (leb 4 (alike_after k (passed d).signal (passed d).alike)) (lt-leb 4 (alike_after k (passed d).signal (passed d).alike) (omega arith))) in
-    let on = cominit_is_on (suc u) y in
+    let on = is_burst_on 960 (suc u) y in
     subst (Early (suc u)) (sym (risen_idle (passed d) off))
     (record {
       no_comsas = c;
@@ -112,7 +95,7 @@ early_next : (u : ℕ) (d : Detector) → Early u d → 960 ≤ u → in_burst 9
     Early (suc u) (risen (passed d))
 early_next u d h ge x y =
     let same = passed_same d in
-    let on = cominit_is_on (suc u) y in
+    let on = is_burst_on 960 (suc u) y in
     let offd : d.burst ≡ false = elim (cases_Bool d.burst) [ inl e ↦ absurd (both_ways (in_burst 960 u) x (h.held e)) | inr e ↦ e ] in
     let off : (passed d).burst ≡ false = same.0 ∙ offd in
     let k : Option Signal = signal_of (passed d).idle in
@@ -135,7 +118,7 @@ early_next u d h ge x y =
 early_ends : (u : ℕ) (d : Detector) → Early u d → in_burst 960 u ≡ true → in_burst 960 (suc u) ≡ false → Early (suc u) (ceased (passed d))
 early_ends u d h x y =
     let same = passed_same d in
-    let on = cominit_is_on u x in
+    let on = is_burst_on 960 u x in
     record {
       no_comsas = same.4 ∙ h.no_comsas;
       not_fallen = passed_fallen d h.no_comsas ∙ h.not_fallen;
@@ -161,7 +144,7 @@ early_stays u d h same-burst =
     -- the tick starts no burst
     no_start : 960 ≤ suc u → suc u < 7680 → (suc u % 1280 ≡ 960 → ⊥) × (960 ≤ u)
     no_start a l =
-        let z : suc u % 1280 ≡ 960 → ⊥ = λ e. both_ways (in_burst 960 (suc u)) (same-burst ∙ cominit_off u (omega arith)) (cominit_on (suc u) l (omega arith)) in
+        let z : suc u % 1280 ≡ 960 → ⊥ = λ e. both_ways (in_burst 960 (suc u)) (same-burst ∙ burst_off 960 u (omega arith)) (burst_on 960 (suc u) l (omega arith)) in
         (z, elim (cases_lt u 960) [ inl p ↦ absurd (z (omega arith)) | inr p ↦ p ])
 
     close : 960 ≤ suc u → suc u < 7680 → d.burst ≡ false → (passed d).idle ≤ (suc u + 320) % 1280
@@ -194,17 +177,17 @@ early_lasts b d u h (suc j) is =
 module _ (b : ℕ → Bool) (d : Detector) (is : (i : ℕ) → i ≤ 5121 → b i ≡ in_burst 960 (959 + i)) where
   -- the first burst
   cominit_first : relay b d 1 ≡ risen (passed d)
-  cominit_first = relay_step b d d 0 false true (is 0 (omega arith) ∙ cominit_off 959 (omega arith))
-      (is 1 (omega arith) ∙ cominit_on 960 (omega arith) (omega arith)) (relay_zero b d)
+  cominit_first = relay_step b d d 0 false true (is 0 (omega arith) ∙ burst_off 960 959 (omega arith))
+      (is 1 (omega arith) ∙ burst_on 960 960 (omega arith) (omega arith)) (relay_zero b d)
 
   -- it is detected with the fifth burst at the latest
   pub cominit_heard : (relay b d 5121).cominit ≡ true
   cominit_heard =
       ap (λ z. z.cominit) (relay_split b d 1 5120 ∙ ap (λ z. relay (shift 1 b) z 5120) cominit_first
       ∙ train (shift 1 b) (risen (passed d)) 319 959 (omega arith) (risen-burst (passed d)) 4
-      (λ q i lq li. is (1 + (q * 1280 + i)) (omega arith) ∙ cominit_on (959 + (1 + (q * 1280 + i))) (omega arith) (omega arith))
-      (λ q i lq li. is (1 + (q * 1280 + (320 + i))) (omega arith) ∙ cominit_off (959 + (1 + (q * 1280 + (320 + i)))) (omega arith))
-      (λ q lq. is (1 + q * 1280) (omega arith) ∙ cominit_on (959 + (1 + q * 1280)) (omega arith) (omega arith)))
+      (λ q i lq li. is (1 + (q * 1280 + i)) (omega arith) ∙ burst_on 960 (959 + (1 + (q * 1280 + i))) (omega arith) (omega arith))
+      (λ q i lq li. is (1 + (q * 1280 + (320 + i))) (omega arith) ∙ burst_off 960 (959 + (1 + (q * 1280 + (320 + i)))) (omega arith))
+      (λ q lq. is (1 + q * 1280) (omega arith) ∙ burst_on 960 (959 + (1 + q * 1280)) (omega arith) (omega arith)))
       ∙ cominit_detected (risen (passed d))
 
 -- a start lets nothing fall
@@ -214,25 +197,23 @@ risen_fallen d = hear_fallen false true d
 -- the fifth period finds COMSAS detected
 five_detected : (d : Detector) → (periods 2879 5 d).comsas ≡ true
 unfolding periods
-five_detected d =
-    let n : ℕ = alike_after (Some Comsas) d.signal d.alike in
-    cond_both (leb 4 (more (more (more (more n))))) true (periods 2879 4 d).comsas (λ z. z ≡ true) (λ _. refl) (λ _. comsas_detected d)
+five_detected d = grind (arith, nat_tests, comsas_detected d)
 
 -- A whole COMSAS, from the tick before its first burst, until it falls
 module _ (b : ℕ → Bool) (d : Detector) (last : ℕ) (is : (i : ℕ) → i ≤ last → b i ≡ in_burst 2880 (2879 + i)) where
   -- the first burst
   comsas_first : 1 ≤ last → relay b d 1 ≡ risen (passed d)
-  comsas_first l = relay_step b d d 0 false true (is 0 (omega arith) ∙ comsas_off 2879 (omega arith))
-      (is 1 (omega arith) ∙ comsas_on 2880 (omega arith) (omega arith)) (relay_zero b d)
+  comsas_first l = relay_step b d d 0 false true (is 0 (omega arith) ∙ burst_off 2880 2879 (omega arith))
+      (is 1 (omega arith) ∙ burst_on 2880 2880 (omega arith) (omega arith)) (relay_zero b d)
 
   -- each further period is heard as one
   comsas_train : (k : ℕ) → k ≤ 5 → 1 + k * 3200 ≤ last → relay b d (1 + k * 3200) ≡ periods 2879 k (risen (passed d))
   comsas_train k le l =
       relay_split b d 1 (k * 3200) ∙ ap (λ z. relay (shift 1 b) z (k * 3200)) (comsas_first (omega arith))
       ∙ train (shift 1 b) (risen (passed d)) 319 2879 (omega arith) (risen-burst (passed d)) k
-      (λ q i lq li. is (1 + (q * 3200 + i)) (omega arith) ∙ comsas_on (2879 + (1 + (q * 3200 + i))) (omega arith) (omega arith))
-      (λ q i lq li. is (1 + (q * 3200 + (320 + i))) (omega arith) ∙ comsas_off (2879 + (1 + (q * 3200 + (320 + i)))) (omega arith))
-      (λ q lq. is (1 + q * 3200) (omega arith) ∙ comsas_on (2879 + (1 + q * 3200)) (omega arith) (omega arith))
+      (λ q i lq li. is (1 + (q * 3200 + i)) (omega arith) ∙ burst_on 2880 (2879 + (1 + (q * 3200 + i))) (omega arith) (omega arith))
+      (λ q i lq li. is (1 + (q * 3200 + (320 + i))) (omega arith) ∙ burst_off 2880 (2879 + (1 + (q * 3200 + (320 + i)))) (omega arith))
+      (λ q lq. is (1 + q * 3200) (omega arith) ∙ burst_on 2880 (2879 + (1 + q * 3200)) (omega arith) (omega arith))
 
   -- it is detected with the fifth burst at the latest
   pub comsas_heard : 12801 ≤ last → (relay b d 12801).comsas ≡ true
@@ -245,14 +226,14 @@ module _ (b : ℕ → Bool) (d : Detector) (last : ℕ) (is : (i : ℕ) → i �
       let on : e.burst ≡ true = periods_burst 2879 5 (risen (passed d)) (risen-burst (passed d)) in
       let c : ℕ → Bool = shift 16001 b in
       let held : relay c e 319 ≡ e =
-      stay_burst c e on 319 (λ i li. is (16001 + i) (omega arith) ∙ comsas_on (2879 + (16001 + i)) (omega arith) (omega arith)) in
+      stay_burst c e on 319 (λ i li. is (16001 + i) (omega arith) ∙ burst_on 2880 (2879 + (16001 + i)) (omega arith) (omega arith)) in
       let ended : relay c e 320 ≡ ceased e =
-      relay_step c e e 319 true false (is 16320 (omega arith) ∙ comsas_on 19199 (omega arith) (omega arith))
-      (is 16321 (omega arith) ∙ comsas_past 19200 (omega arith)) held ∙ ap ceased (passed-burst e on) in
+      relay_step c e e 319 true false (is 16320 (omega arith) ∙ burst_on 2880 19199 (omega arith) (omega arith))
+      (is 16321 (omega arith) ∙ burst_past 2880 19200 (omega arith)) held ∙ ap ceased (passed-burst e on) in
       let quiet : relay c e 5044 ≡ idled 4724 (ceased e) =
       relay_split c e 320 4724 ∙ ap (λ z. relay (shift 320 c) z 4724) ended
       ∙ stay_idle (shift 320 c) (ceased e) 0 refl 4724
-      (λ i li. is (16001 + (320 + i)) (omega arith) ∙ comsas_past (2879 + (16001 + (320 + i))) (omega arith)) (omega arith) in
+      (λ i li. is (16001 + (320 + i)) (omega arith) ∙ burst_past 2880 (2879 + (16001 + (320 + i))) (omega arith)) (omega arith) in
       relay_split b d 16001 5044 ∙ ap (λ z. relay c z 5044) (comsas_train 5 (omega arith) (omega arith)) ∙ quiet
 
   -- one tick before the end of the closing idle it has not fallen

@@ -1,14 +1,16 @@
 -- One window of one end.
 use Rattle.std.proofs.Common.{◌≡◌, ℕ, zero, suc, ◌+◌, ◌-◌, ◌<◌, ◌≤◌, Bool, true, false, cond, ◌&&◌, leb, ◌⊎◌, List, [], ◌∷◌, Some, Option, sym, refl, ap, ◌∙◌, subst, inl, inr, add-zero, add-suc, arith}
 use Rattle.std.proofs.lemmas.Bool.Decides.{nat_tests}
-use Rattle.std.proofs.lemmas.Bool.{cond-true, cond-false, cond_both, and_from, and_parts, le-leb, leb-true, both_ways, false≢true, cases_Bool, cases_lt, or_right}
+use Rattle.std.proofs.lemmas.Bool.{cond-true, cond-false, and_from, and_parts, le-leb, leb-true, both_ways, false≢true, cases_Bool, cases_lt, or_right}
 use Rattle.bringup.specs.declared.end.Phase.{Phase}
 use Rattle.bringup.specs.declared.end.Phase.TheVariants.{Negotiating, Ready, Failed}
 use Rattle.bringup.specs.declared.rate.Rate.{Rate}
 use Rattle.bringup.specs.declared.rate.RateSet.{RateSet}
+use Rattle.bringup.specs.declared.end.Standing.{Standing}
+use Rattle.bringup.specs.declared.end.Standing.TheVariants.{AfterInvalid, AfterValid, Final}
 use Rattle.bringup.specs.declared.end.Window.{Window}
 use Rattle.bringup.specs.declared.end.Sign.{Sign}
-use Rattle.bringup.specs.declared.end.Sign.TheVariants.{Nothing, BurstStarts, BurstEnds, Locked, Align1}
+use Rattle.bringup.specs.declared.end.Sign.TheVariants.{Locked, Align1}
 use Rattle.bringup.specs.declared.end.Activity.{Activity}
 use Rattle.bringup.specs.declared.end.Activity.TheVariants.{Idle, Burst}
 use Rattle.bringup.specs.declared.end.Activity.TheVariants as sends
@@ -19,108 +21,64 @@ use Rattle.bringup.specs.Detection.{passed}
 use Rattle.bringup.specs.declared.detector.Detector.{Detector}
 use Rattle.bringup.specs.declared.end.End.{End}
 use Rattle.agreement.specs.FairLine.{has, is_sign, all_signed, is_over}
-use Rattle.agreement.proofs.Machine.{make, ears, window_all, in_time, window_step, heard, signs_opening, signs_other}
+use Rattle.agreement.proofs.Machine.{make, ears, window_one, window_all, in_time, window_step, heard, signs_opening, signs_other}
 use Rattle.agreement.proofs.Stages.{state, In, step}
 
 -- what a window keeps, and how it may change at its tick k
 pub record Grows (s : RateSet) (k : ℕ) (gs : List Sign) (v w : Window) : Type 0 where
   pub rate : w.rate ≡ v.rate
-  pub last : w.last ≡ v.last
-  pub valid_before : w.follows ≡ v.follows
+  pub standing : w.standing ≡ v.standing
   pub lock_stays : v.locked ≡ true → w.locked ≡ true
   pub align_stays : v.aligned ≡ true → w.aligned ≡ true
   pub lock_counts : w.locked ≡ true → (v.locked ≡ true) ⊎ (in_time s k v ≡ true)
   pub align_noted : w.aligned ≡ true → (v.aligned ≡ true) ⊎ ((has Align1 gs ≡ true) × (w.locked ≡ true))
 
--- without signs nothing grows
-grows_none : (s : RateSet) (k : ℕ) (w : Window) → Grows s k [] w w
-grows_none s k w = record {
+-- a sign locks a window only in time
+locked_by : (g : Sign) (s : RateSet) (k : ℕ) (w : Window) → (window_one g s k w).locked ≡ true → (w.locked ≡ true) ⊎ (in_time s k w ≡ true)
+locked_by g s k w e = elim (cases_Bool w.locked) [ inl l ↦ inl l | inr n ↦ inr (grind (arith, nat_tests)) ]
+
+-- and makes it valid only as an ALIGN(1) in a locked one
+aligned_by : (g : Sign) (s : RateSet) (k : ℕ) (w : Window) → (window_one g s k w).aligned ≡ true →
+    (w.aligned ≡ true) ⊎ ((is_sign Align1 g ≡ true) × ((window_one g s k w).locked ≡ true))
+aligned_by g s k w e = elim (cases_Bool w.aligned) [ inl a ↦ inl a | inr n ↦ inr (grind (arith, nat_tests), grind (arith, nat_tests)) ]
+
+-- so the signs of a tick let a window grow only
+pub grows : (gs : List Sign) (s : RateSet) (k : ℕ) (w : Window) → Grows s k gs w (window_all gs s k w)
+grows [] s k w = record {
   rate = refl;
-  last = refl;
-  valid_before = refl;
+  standing = refl;
   lock_stays = λ e. e;
   align_stays = λ e. e;
   lock_counts = λ e. inl e;
   align_noted = λ e. inl e;
 }
-
--- one more sign ahead keeps what grew
-grows_more : (g : Sign) (gs : List Sign) (s : RateSet) (k : ℕ) (v w : Window) → Grows s k gs v w → Grows s k (g ∷ gs) v w
-grows_more g gs s k v w h = record {
-  rate = h.rate;
-  last = h.last;
-  valid_before = h.valid_before;
-  lock_stays = h.lock_stays;
-  align_stays = h.align_stays;
-  lock_counts = h.lock_counts;
-  align_noted = λ e. elim (h.align_noted e) [ inl p ↦ inl p | inr p ↦ inr (or_right (is_sign Align1 g) (has Align1 gs) p.0, p.1) ];
-}
-
--- a lock ahead of other signs
-grows_locked : (gs : List Sign) (s : RateSet) (k : ℕ) (w : Window) → ((v : Window) → Grows s k gs v (window_all gs s k v)) →
-    (b : Bool) → in_time s k w ≡ b → Grows s k (Locked ∷ gs) w (window_all gs s k (cond (in_time s k w) (locked_window w) w))
-grows_locked gs s k w rest true e =
-    let h = rest (locked_window w) in
-    rw e (record {
-      rate = h.rate;
-      last = h.last;
-      valid_before = h.valid_before;
-      lock_stays = λ _. h.lock_stays refl;
-      align_stays = h.align_stays;
-      lock_counts = λ _. inr e;
-      align_noted = h.align_noted;
-    })
-grows_locked gs s k w rest false e = rw e (grows_more Locked gs s k w (window_all gs s k w) (rest w))
-
--- an ALIGN(1) ahead of other signs
-grows_align : (gs : List Sign) (s : RateSet) (k : ℕ) (w : Window) → ((v : Window) → Grows s k gs v (window_all gs s k v)) →
-    (b : Bool) → w.locked ≡ b → Grows s k (Align1 ∷ gs) w (window_all gs s k (cond w.locked (aligned_window w) w))
-grows_align gs s k w rest true e = subst (λ z. Grows s k (Align1 ∷ gs) w (window_all gs s k z)) (sym (cond-true w.locked (aligned_window w) w e))
-    (let h = rest (aligned_window w) in
+grows (g ∷ gs) s k w =
+    let v : Window = window_one g s k w in
+    let h : Grows s k gs v (window_all gs s k v) = grows gs s k v in
     record {
-      rate = h.rate;
-      last = h.last;
-      valid_before = h.valid_before;
-      lock_stays = h.lock_stays;
-      align_stays = λ _. h.align_stays refl;
-      lock_counts = h.lock_counts;
-      align_noted = λ _. inr (refl, h.lock_stays e);
-    })
-grows_align gs s k w rest false e = subst (λ z. Grows s k (Align1 ∷ gs) w (window_all gs s k z)) (sym (cond-false w.locked (aligned_window w) w e))
-    (grows_more Align1 gs s k w (window_all gs s k w) (rest w))
-
--- so the signs of a tick let a window grow only
-pub grows : (gs : List Sign) (s : RateSet) (k : ℕ) (w : Window) → Grows s k gs w (window_all gs s k w)
-grows [] s k w = grows_none s k w
-grows (Nothing ∷ gs) s k w = grows_more Nothing gs s k w (window_all gs s k w) (grows gs s k w)
-grows (BurstStarts ∷ gs) s k w = grows_more BurstStarts gs s k w (window_all gs s k w) (grows gs s k w)
-grows (BurstEnds ∷ gs) s k w = grows_more BurstEnds gs s k w (window_all gs s k w) (grows gs s k w)
-grows (Locked ∷ gs) s k w = grows_locked gs s k w (λ v. grows gs s k v) (in_time s k w) refl
-grows (Align1 ∷ gs) s k w = grows_align gs s k w (λ v. grows gs s k v) w.locked refl
+      rate = grind (arith, nat_tests, h.rate);
+      standing = grind (arith, nat_tests, h.standing);
+      lock_stays = λ e. h.lock_stays (grind (arith, nat_tests));
+      align_stays = λ e. h.align_stays (grind (arith, nat_tests));
+      lock_counts = λ e. elim (h.lock_counts e) [ inl l ↦ locked_by g s k w l | inr t ↦ inr (grind (arith, nat_tests, t)) ];
+      align_noted = λ e. elim (h.align_noted e) [
+        | inl a ↦ elim (aligned_by g s k w a) [
+          | inl b ↦ inl b
+          | inr p ↦ inr (grind (arith, nat_tests, p.0), h.lock_stays (grind (arith, nat_tests, p.1)))
+        ]
+        | inr p ↦ inr (or_right (is_sign Align1 g) (has Align1 gs) p.0, p.1)
+      ];
+    }
 
 -- a lock in time counts
 pub locks : (gs : List Sign) (s : RateSet) (k : ℕ) (w : Window) → has Locked gs ≡ true → in_time s k w ≡ true → (window_all gs s k w).locked ≡ true
 locks [] s k w h i = absurd (false≢true h)
-locks (Nothing ∷ gs) s k w h i = locks gs s k w h i
-locks (BurstStarts ∷ gs) s k w h i = locks gs s k w h i
-locks (BurstEnds ∷ gs) s k w h i = locks gs s k w h i
-locks (Locked ∷ gs) s k w h i =
-    subst (λ z. (window_all gs s k z).locked ≡ true) (sym (cond-true (in_time s k w) (locked_window w) w i)) ((grows gs s k (locked_window w)).lock_stays refl)
-locks (Align1 ∷ gs) s k w h i =
-    cond_both w.locked (aligned_window w) w (λ z. (window_all gs s k z).locked ≡ true)
-    (λ e. locks gs s k (aligned_window w) h i) (λ _. locks gs s k w h i)
+locks (g ∷ gs) s k w h i = grind (arith, nat_tests, locks gs s k w, locks gs s k (aligned_window w), (grows gs s k (locked_window w)).lock_stays)
 
 -- ALIGN(1) after a lock makes the window valid
 pub aligns : (gs : List Sign) (s : RateSet) (k : ℕ) (w : Window) → has Align1 gs ≡ true → w.locked ≡ true → (window_all gs s k w).aligned ≡ true
 aligns [] s k w h l = absurd (false≢true h)
-aligns (Nothing ∷ gs) s k w h l = aligns gs s k w h l
-aligns (BurstStarts ∷ gs) s k w h l = aligns gs s k w h l
-aligns (BurstEnds ∷ gs) s k w h l = aligns gs s k w h l
-aligns (Locked ∷ gs) s k w h l =
-    cond_both (in_time s k w) (locked_window w) w (λ z. (window_all gs s k z).aligned ≡ true)
-    (λ e. aligns gs s k (locked_window w) h refl) (λ _. aligns gs s k w h l)
-aligns (Align1 ∷ gs) s k w h l =
-    subst (λ z. (window_all gs s k z).aligned ≡ true) (sym (cond-true w.locked (aligned_window w) w l)) ((grows gs s k (aligned_window w)).align_stays refl)
+aligns (g ∷ gs) s k w h l = grind (arith, nat_tests, aligns gs s k w, aligns gs s k (locked_window w), (grows gs s k (aligned_window w)).align_stays)
 
 -- whether an end sends ALIGN(1)
 abbrev pub is_align1 : Activity → Bool
@@ -133,9 +91,22 @@ is_align1 sends.Align1 = true
 not_align1 : (b : Bool) → is_align1 (cond b sends.Align0 Idle) ≡ false
 not_align1 b = grind (arith, nat_tests)
 
+-- an end that is over makes no transition
+over_settled : (p : Phase) (e : End) → is_over p ≡ true → settled p e ≡ e
+over_settled p e over = grind (arith, nat_tests)
+
+-- and neither waits nor negotiates
+over_idle : (p : Phase) → is_over p ≡ true → (is_awaiting p ≡ false) × (is_negotiating p ≡ false)
+over_idle p over = (grind (arith, nat_tests), grind (arith, nat_tests))
+
 -- a window as it opens
-abbrev pub fresh_window : Rate → Bool → Bool → Window
-fresh_window r last av = record { rate = r; last = last; follows = av; locked = false; aligned = false }
+abbrev pub fresh_window : Rate → Standing → Window
+fresh_window r standing = record { rate = r; standing = standing; locked = false; aligned = false }
+
+-- where the next window stands, unless it is the final one
+abbrev pub after : Bool → Standing
+after true = AfterValid
+after false = AfterInvalid
 
 -- The window opened at tick o with w
 module _ (h : ℕ → List Sign) (s : RateSet) (o : ℕ) (w : Window) (fresh : w.locked ≡ false) (unaligned : w.aligned ≡ false)
@@ -164,17 +135,11 @@ module _ (h : ℕ → List Sign) (s : RateSet) (o : ℕ) (w : Window) (fresh : w
   open_rate zero = refl
   open_rate (suc k) = (grown k).rate ∙ open_rate k
 
-  -- it stays the final one or not
-  pub open_last : (k : ℕ) → (current k).last ≡ w.last
+  -- and so does its standing
+  pub open_standing : (k : ℕ) → (current k).standing ≡ w.standing
   unfolding current
-  open_last zero = refl
-  open_last (suc k) = (grown k).last ∙ open_last k
-
-  -- and what it knows of the one before stays
-  pub open_valid_before : (k : ℕ) → (current k).follows ≡ w.follows
-  unfolding current
-  open_valid_before zero = refl
-  open_valid_before (suc k) = (grown k).valid_before ∙ open_valid_before k
+  open_standing zero = refl
+  open_standing (suc k) = (grown k).standing ∙ open_standing k
 
   -- a lock stays
   pub locked_stays : (k j : ℕ) → (current k).locked ≡ true → (current (k + j)).locked ≡ true
@@ -278,49 +243,45 @@ module _ (h : ℕ → List Sign) (s : RateSet) (o : ℕ) (w : Window) (fresh : w
   last_end = make s Negotiating 328640 last_detector (Some (current 328639))
 
   -- what follows is a window: its first signs change nothing of it
-  reopened : (r : Rate) (last av : Bool) → closing (current 328639) last_end ≡ make s Negotiating 0 last_detector (Some (fresh_window r last av)) →
-      In h s (o + 328640) Negotiating 0 (Some (fresh_window r last av))
-  reopened r last av e = closes Negotiating (Some (fresh_window r last av))
-      (ap (all_signed (h (suc (o + 328639)))) e ∙ signs_opening (h (suc (o + 328639))) s last_detector (fresh_window r last av) refl)
+  reopened : (r : Rate) (standing : Standing) → closing (current 328639) last_end ≡ make s Negotiating 0 last_detector (Some (fresh_window r standing)) →
+      In h s (o + 328640) Negotiating 0 (Some (fresh_window r standing))
+  reopened r standing e = closes Negotiating (Some (fresh_window r standing))
+      (ap (all_signed (h (suc (o + 328639)))) e ∙ signs_opening (h (suc (o + 328639))) s last_detector (fresh_window r standing) refl)
+
+  -- or an end that is over, whose signs do nothing
+  ended : (p : Phase) → is_over p ≡ true → closing (current 328639) last_end ≡ make s p 0 last_detector (Some (current 328639)) →
+      In h s (o + 328640) p 0 (Some (current 328639))
+  ended p over e = closes p (Some (current 328639))
+      (ap (all_signed (h (suc (o + 328639)))) e
+      ∙ signs_other (h (suc (o + 328639))) s p 0 last_detector (Some (current 328639)) (over_idle p over).0 (over_idle p over).1)
 
   -- a valid final window gives ready
-  pub closes_ready : w.last ≡ true → valid ≡ true → In h s (o + 328640) Ready 0 (Some (current 328639))
-  closes_ready l v = closes Ready (Some (current 328639))
-      (ap (all_signed (h (suc (o + 328639)))) (simp (open_last 328639, l, v)) ∙ signs_other (h (suc (o + 328639))) s Ready 0 last_detector (Some (current 328639)) refl refl)
+  pub closes_ready : w.standing ≡ Final → valid ≡ true → In h s (o + 328640) Ready 0 (Some (current 328639))
+  closes_ready l v = ended Ready refl (simp (open_standing 328639, l, v))
 
   -- an invalid final window gives failed
-  pub closes_failed : w.last ≡ true → valid ≡ false → In h s (o + 328640) Failed 0 (Some (current 328639))
-  closes_failed l v = closes Failed (Some (current 328639))
-      (ap (all_signed (h (suc (o + 328639)))) (simp (open_last 328639, l, v)) ∙ signs_other (h (suc (o + 328639))) s Failed 0 last_detector (Some (current 328639)) refl refl)
+  pub closes_failed : w.standing ≡ Final → valid ≡ false → In h s (o + 328640) Failed 0 (Some (current 328639))
+  closes_failed l v = ended Failed refl (simp (open_standing 328639, l, v))
 
   -- a valid window is followed by the next rate
-  pub closes_valid : w.last ≡ false → valid ≡ true → In h s (o + 328640) Negotiating 0 (Some (fresh_window (next_rate w.rate) false true))
-  closes_valid l v = reopened (next_rate w.rate) false true (simp (open_last 328639, l, v, open_rate 328639))
+  pub closes_valid : (av : Bool) → w.standing ≡ after av → valid ≡ true → In h s (o + 328640) Negotiating 0 (Some (fresh_window (next_rate w.rate) AfterValid))
+  closes_valid true l v = reopened (next_rate w.rate) AfterValid (simp (open_standing 328639, l, v, open_rate 328639))
+  closes_valid false l v = reopened (next_rate w.rate) AfterValid (simp (open_standing 328639, l, v, open_rate 328639))
 
   -- an invalid one after a valid one is followed by the final one
-  pub closes_back : w.last ≡ false → valid ≡ false → w.follows ≡ true →
-      In h s (o + 328640) Negotiating 0 (Some (fresh_window (previous_rate w.rate) true false))
-  closes_back l v a = reopened (previous_rate w.rate) true false (simp (open_last 328639, l, v, open_valid_before 328639, a, open_rate 328639))
+  pub closes_back : w.standing ≡ AfterValid → valid ≡ false →
+      In h s (o + 328640) Negotiating 0 (Some (fresh_window (previous_rate w.rate) Final))
+  closes_back l v = reopened (previous_rate w.rate) Final (simp (open_standing 328639, l, v, open_rate 328639))
 
   -- an invalid one above the highest rate gives failed
-  pub closes_gives_up : w.last ≡ false → valid ≡ false → w.follows ≡ false → past_highest s w.rate ≡ true →
+  pub closes_gives_up : w.standing ≡ AfterInvalid → valid ≡ false → past_highest s w.rate ≡ true →
       In h s (o + 328640) Failed 0 (Some (current 328639))
-  closes_gives_up l v a p = closes Failed (Some (current 328639))
-      (ap (all_signed (h (suc (o + 328639)))) (simp (open_last 328639, l, v, open_valid_before 328639, a, open_rate 328639, p))
-      ∙ signs_other (h (suc (o + 328639))) s Failed 0 last_detector (Some (current 328639)) refl refl)
+  closes_gives_up l v p = ended Failed refl (simp (open_standing 328639, l, v, open_rate 328639, p))
 
   -- any other is followed by the next rate
-  pub closes_next : w.last ≡ false → valid ≡ false → w.follows ≡ false → past_highest s w.rate ≡ false →
-      In h s (o + 328640) Negotiating 0 (Some (fresh_window (next_rate w.rate) false false))
-  closes_next l v a p = reopened (next_rate w.rate) false false (simp (open_last 328639, l, v, open_valid_before 328639, a, open_rate 328639, p))
-
--- an end that is over makes no transition
-over_settled : (p : Phase) (e : End) → is_over p ≡ true → settled p e ≡ e
-over_settled p e over = grind (arith, nat_tests)
-
--- and neither waits nor negotiates
-over_idle : (p : Phase) → is_over p ≡ true → (is_awaiting p ≡ false) × (is_negotiating p ≡ false)
-over_idle p over = (grind (arith, nat_tests), grind (arith, nat_tests))
+  pub closes_next : w.standing ≡ AfterInvalid → valid ≡ false → past_highest s w.rate ≡ false →
+      In h s (o + 328640) Negotiating 0 (Some (fresh_window (next_rate w.rate) AfterInvalid))
+  closes_next l v p = reopened (next_rate w.rate) AfterInvalid (simp (open_standing 328639, l, v, open_rate 328639, p))
 
 -- so it is over for good
 pub over_stays : (h : ℕ → List Sign) (s : RateSet) (t : ℕ) (w : Option Window) (p : Phase) → is_over p ≡ true →

@@ -1,10 +1,11 @@
 -- Many ticks at once, while nothing comes due.
-use Rattle.std.specs.Prelude.{ℕ, ◌+◌, ◌-◌, Bool, false, cond, not, ◌||◌, Some, None, Option, nat_le, nat_lt}
+use Rattle.std.specs.Prelude.{◌≡◌, ℕ, suc, ◌+◌, ◌-◌, ◌<◌, Bool, false, cond, Some, None, Option, nat_le, nat_lt}
 use Rattle.bringup.specs.declared.detector.Detector.{Detector}
 use Rattle.bringup.specs.declared.end.End.{End}
 use Rattle.bringup.specs.declared.end.Phase.{Phase}
 use Rattle.bringup.specs.declared.end.Phase.TheVariants.{Unstarted, SendingCominit, Awaiting, SendingComsas, Falling, Negotiating, Ready, Failed}
-use Rattle.bringup.specs.Bringup.{signalled}
+use Rattle.bringup.specs.Detection.{passed}
+use Rattle.bringup.specs.Bringup.{settled}
 
 -- n counted up by k, to at most cap.
 abbrev pub capped : ℕ → ℕ → ℕ → ℕ
@@ -22,9 +23,9 @@ rested k d = cond d.burst d
       fallen = d.fallen;
     })
 
--- For how many ticks COMSAS does not fall; 400,000 stands for as many as can be noted.
-abbrev pub detector_calm : Detector → ℕ
-detector_calm d = cond (d.burst || (not d.comsas || d.fallen)) 400000 (4724 - d.idle)
+-- In so many ticks COMSAS does not fall: each only lengthens the idle.
+abbrev pub OnlyRests : ℕ → Detector → Type 0
+OnlyRests n d = (k : ℕ) → k < n → passed (rested k d) ≡ rested (suc k) d
 
 -- So many ticks in which nothing comes due.
 abbrev pub skipped : ℕ → End → End
@@ -51,13 +52,6 @@ abbrev pub has_run_out : Option ℕ → ℕ → Bool
 has_run_out None t = false
 has_run_out (Some n) t = nat_le n t
 
--- For how many ticks the phase brings nothing new.
-abbrev pub phase_calm : Phase → End → ℕ
-phase_calm Unstarted e = 400000
-phase_calm SendingCominit e = 9254 - e.elapsed
-phase_calm Awaiting e = cond (signalled e.detector) 0 400000
-phase_calm SendingComsas e = 23924 - e.elapsed
-phase_calm Falling e = cond e.detector.fallen 0 (cond e.detector.comsas 400000 (32639 - e.elapsed))
-phase_calm Negotiating e = 328639 - e.elapsed
-phase_calm Ready e = 400000
-phase_calm Failed e = 400000
+-- In so many ticks no transition comes due.
+abbrev pub NothingDue : ℕ → End → Type 0
+NothingDue n e = (k : ℕ) → k < n → settled e.phase (skipped (suc k) e) ≡ skipped (suc k) e

@@ -2,7 +2,7 @@
 ghost use Rattle.std.specs.Prelude.{◌≡◌};
 ghost use Rattle.bringup.specs.Detection.{signal_of, alike_after, passed, risen, ceased};
 ghost use Rattle.bringup.specs.Bringup.{signalled};
-ghost use Rattle.bringup.specs.Skipping.{capped, rested, detector_calm};
+ghost use Rattle.bringup.specs.Skipping.{capped, rested, OnlyRests};
 
 use crate::end::MOST_TICKS;
 use crate::signal::Signal;
@@ -118,7 +118,7 @@ impl Detector {
 
     // For how many ticks COMSAS does not fall.
     pub fn calm(&self) -> u32
-        ensures { result ≡ detector_calm self.now }
+        ensures { OnlyRests result self.now }
     {
         if self.burst || !self.comsas || self.fallen {
             MOST_TICKS

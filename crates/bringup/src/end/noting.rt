@@ -2,7 +2,7 @@
 ghost use Rattle.std.specs.Prelude.{◌≡◌, ◌≤◌};
 ghost use Rattle.code.specs.Refusals.{numbered};
 ghost use Rattle.bringup.specs.Bringup.{entered, opened, awaited, awaited_fall, closed_window, settled, tick, ticks, signed, sign_numbered, unused, start_refusal, note_refusal, starting, noting};
-ghost use Rattle.bringup.specs.Skipping.{skipped, detector_calm, timer, has_run_out, phase_calm};
+ghost use Rattle.bringup.specs.Skipping.{skipped, timer, has_run_out, OnlyRests, NothingDue};
 
 use crate::detector::{Detector, count_up};
 use crate::end::{End, MOST_TICKS, Phase, Sign, Standing, Window};
@@ -291,14 +291,14 @@ impl End {
     // For how many ticks, at most so many, nothing comes due.
     fn calm(&self, most: u32) -> u32
         ensures bounded { result ≤ most }
-        ensures detector { result ≤ detector_calm self.now.detector }
-        ensures phase { result ≤ phase_calm self.now.phase self.now }
+        ensures detector { OnlyRests result self.now.detector }
+        ensures phase { NothingDue result self.now }
     {
         most.min(self.detector.calm()).min(self.calm_in_phase())
     }
 
     fn calm_in_phase(&self) -> u32
-        ensures { result ≡ phase_calm self.now.phase self.now }
+        ensures { NothingDue result self.now }
     {
         match self.phase {
             Phase::Awaiting if self.detector.has_detected() => 0,
