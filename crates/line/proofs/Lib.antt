@@ -1,4 +1,5 @@
 pub mod BitLists
 pub mod Cyclics
+pub mod Rings
 pub mod Recordings
 pub mod Faults

@@ -1,6 +1,6 @@
 -- Rings: where their places lie, and what taking one into use and letting one go does.
-use Rattle.std.specs.Prelude.{◌≡◌, ℕ, ◌+◌, cond, Some, None, Option, nat_lt}
-use Rattle.line.specs.Cyclic.{wrap}
+use Rattle.std.specs.Prelude.{◌≡◌, ℕ, ◌+◌, cond, List, take, Some, None, Option, nat_lt}
+use Rattle.line.specs.Cyclic.{cyclic, wrap}
 use Rattle.line.specs.declared.ring.Ring.{Ring}
 
 -- Place k from the front on.
@@ -22,3 +22,7 @@ abbrev pub Advanced : Ring → Option ℕ → Ring → Type 0
 Advanced before (Some place) after =
     (place ≡ before.front) × (after.size ≡ before.size) × (after.front ≡ place_of before 1) × (before.count ≡ after.count + 1)
 Advanced before None after = (before.count ≡ 0) × (after ≡ before)
+
+-- The elements of a list that lie in the places in use, the front's first. The list may go on beyond the ring.
+unfoldable pub in_use : {X : Type 0} → List X → Ring → List X
+in_use xs ring = cyclic (take ring.size xs) ring.front ring.count

@@ -1,6 +1,7 @@
 // Taps hand out bits one by one, and lines are taps that can also be written; a recording is a tap over bytes that were kept.
 #![tactic(auto)]
 
+pub mod bits;
 pub mod recording;
 pub mod refusal;
 pub mod ring;

@@ -3,6 +3,7 @@ ghost use Rattle.std.specs.Prelude.{◌≡◌, ◌-◌, ◌/◌, ◌%◌, ◌^�
 ghost use Rattle.line.specs.Recordings.{records, bit_places, held_bits, meaning_at, recording_meaning, NextBit};
 ghost use Rattle.line.specs.Opening.{recording_refusal, record_fault, first_fault, opening, opened, OverBytes};
 
+use crate::bits::bit_of_byte;
 use crate::tap::Tap;
 
 // What is wrong with one record.
@@ -58,21 +59,13 @@ fn record_at(bytes: &[u8], index: usize) -> &[u8]
     &bytes[start..start + 16]
 }
 
-// The bit of a byte at a place from the highest.
-fn bit_of(byte: u8, place: usize) -> u8
-    requires { place < 8 }
-    ensures { result ≡ byte / 2 ^ (7 - place) % 2 }
-{
-    (byte >> (7 - place)) & 1
-}
-
 // The bit at a place of a record.
 fn bit_at(block: &[u8], place: usize) -> u8
     requires { (length block.now ≡ 16) × (place < 120) }
     ensures place { result ≡ slice_index (bit_places block.now) place }
     ensures bit { result < 2 }
 {
-    bit_of(block[1 + place / 8], place % 8)
+    bit_of_byte(block[1 + place / 8], place)
 }
 
 // How many bits a record holds.

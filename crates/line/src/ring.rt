@@ -1,13 +1,5 @@
 // Rings: places in a row, of which the last is followed by the first.
 ghost use Rattle.std.specs.Prelude.{◌≡◌, ◌-◌, ◌≤◌};
-ghost use Rattle.line.specs.Cyclic.{wrap};
-
-// Place n of a ring of so many places, for n below twice their number.
-pub fn ring_place(size: usize, n: usize) -> usize
-    ensures { result ≡ wrap size n }
-{
-    if n < size { n } else { n - size }
-}
 
 // Which places of a ring are in use: so many, from the front on.
 #[derive(Clone, Copy, PartialEq, Eq, Debug)]

@@ -1,5 +1,5 @@
 pub mod Meanings
-pub mod Characters
-pub mod WordLines
 pub mod PackedBits
 pub mod PackedLines
+pub mod Characters
+pub mod WordLines

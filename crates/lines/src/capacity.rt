@@ -20,8 +20,5 @@ pub fn check_memory(bits: usize, elements: usize) -> Result<usize, MemoryRefusal
 pub fn capacity_over(bits: usize, elements: usize) -> usize
     ensures { result ≡ line_capacity (bits * elements) }
 {
-    match check_memory(bits, elements) {
-        Ok(capacity) => capacity,
-        Err(_) => 0,
-    }
+    check_memory(bits, elements).unwrap_or(0)
 }

@@ -2,5 +2,7 @@
 #![tactic(auto)]
 
 mod capacity;
+mod character;
+mod checks;
 pub mod packed_line;
 pub mod word_line;

@@ -1,15 +1,19 @@
 // What a line over packed bits does.
-ghost use Rattle.std.specs.Prelude.{◌≡◌, ◌+◌, ◌*◌, ◌<◌, ◌≤◌, [], ◌∷◌, length, MatchBool, slice_index, slice_set};
-ghost use Rattle.code.specs.Bits.{bits_of, inverted};
+ghost use Rattle.std.specs.Prelude.{◌≡◌, ◌+◌, ◌*◌, ◌<◌, ◌≤◌, [], ◌∷◌, length};
+ghost use Rattle.code.specs.Bits.{bits_of};
 ghost use Rattle.code.specs.Refusals.{numbered};
-ghost use Rattle.line.specs.Waiting.{Taken, IsBit, DryStill, with_first};
-ghost use Rattle.line.specs.Writing.{put_refusal, turn_refusal, memory_refusal, line_capacity, checking, empty_line, accepted, putting, turning, stored, Still};
+ghost use Rattle.line.specs.Waiting.{Taken, IsBit, DryStill};
+ghost use Rattle.line.specs.Writing.{put_refusal, turn_refusal, memory_refusal, checking, empty_line, putting, turning, stored, Still};
 ghost use Rattle.lines.specs.Packed.{packed_meaning, memory_bits, Appended, bits_put, bits_turned};
 
 use crate::capacity::{capacity_over, check_memory};
+use crate::character::bit_of_character;
+use crate::checks::{check_put, check_turn};
 use crate::packed_line::PackedLine;
+use crate::packed_line::bits::{flip, set_bit};
+use line::bits::bit_of_byte;
 use line::refusal::{MemoryRefusal, PutRefusal, TurnRefusal};
-use line::ring::ring_place;
+use line::ring::Ring;
 use line::tap::{Line, Tap};
 
 impl<'a> PackedLine<'a> {
@@ -27,99 +31,19 @@ impl<'a> PackedLine<'a> {
         ensures lent { result.bytes.ghost_name ≡ memory.entry.ghost_name }
     {
         PackedLine {
-            size: capacity_over(8, memory.len()),
+            ring: Ring::over(capacity_over(8, memory.len())),
             bytes: memory,
-            front: 0,
-            count: 0,
         }
-    }
-
-    // Whether no bit waits.
-    fn holds_none(&self) -> bool
-        ensures { MatchBool result ((packed_meaning self.now).waiting ≡ []) (0 < self.now.count) }
-    {
-        self.count == 0
-    }
-
-    // How many bits wait.
-    fn waiting(&self) -> usize
-        ensures { result ≡ length (packed_meaning self.now).waiting }
-    {
-        self.count
-    }
-
-    // The most bits that can wait.
-    fn size(&self) -> usize
-        ensures size { result ≡ (packed_meaning self.now).capacity }
-        ensures range { result ≡ line_capacity result }
-        ensures within { length (packed_meaning self.now).waiting ≤ result }
-    {
-        self.size
-    }
-
-    // The bit of the memory at a place.
-    fn bit_at(&self, place: usize) -> u8
-        requires { place < self.now.size }
-        ensures value { result ≡ slice_index (memory_bits self.now) place }
-        ensures bit { result < 2 }
-    {
-        (self.bytes[place / 8] >> (7 - place % 8)) & 1
-    }
-
-    // Inverts the bit of the memory at a place.
-    fn flip(&mut self, place: usize)
-        requires { place < self.old.size }
-        ensures bits { memory_bits self.new ≡ inverted (memory_bits self.old) place }
-        ensures size { self.new.size ≡ self.old.size }
-        ensures front { self.new.front ≡ self.old.front }
-        ensures count { self.new.count ≡ self.old.count }
-        ensures lent { self.new.bytes.ghost_name ≡ self.old.bytes.ghost_name }
-    {
-        self.bytes[place / 8] ^= 1 << (7 - place % 8);
-    }
-
-    // Writes a bit of the memory at a place.
-    fn set_bit(&mut self, place: usize, bit: u8)
-        requires { (place < self.old.size) × (bit < 2) }
-        ensures bits { memory_bits self.new ≡ slice_set (memory_bits self.old) place bit }
-        ensures size { self.new.size ≡ self.old.size }
-        ensures front { self.new.front ≡ self.old.front }
-        ensures count { self.new.count ≡ self.old.count }
-        ensures lent { self.new.bytes.ghost_name ≡ self.old.bytes.ghost_name }
-    {
-        if self.bit_at(place) != bit {
-            self.flip(place);
-        }
-    }
-
-    // The first bit that waits.
-    fn first_bit(&self) -> u8
-        requires { 0 < self.now.count }
-        ensures first { result ≡ slice_index (packed_meaning self.now).waiting 0 }
-        ensures bit { result < 2 }
-    {
-        self.bit_at(self.front)
-    }
-
-    // Lets the first bit go.
-    fn let_go(&mut self)
-        requires { 0 < self.old.count }
-        ensures line { packed_meaning self.old ≡ with_first (slice_index (packed_meaning self.old).waiting 0) (packed_meaning self.new) }
-        ensures bytes { self.new.bytes.now ≡ self.old.bytes.now }
-        ensures lent { self.new.bytes.ghost_name ≡ self.old.bytes.ghost_name }
-    {
-        self.front = ring_place(self.size, self.front + 1);
-        self.count -= 1;
     }
 
     // Puts a bit behind the last.
     fn append_bit(&mut self, bit: u8)
-        requires { (self.old.count < self.old.size) × (bit < 2) }
+        requires { (self.old.ring.count < self.old.ring.size) × (bit < 2) }
         ensures { Appended self.old (bit ∷ []) self.new }
     {
-        let place = ring_place(self.size, self.front + self.count);
-        self.set_bit(place, bit);
-        self.count += 1;
+        if let Some(place) = self.ring.grow() {
+            set_bit(self.bytes, place, bit);
+        }
     }
 
     // Puts a character behind the last bit.
@@ -127,19 +51,9 @@ impl<'a> PackedLine<'a> {
         requires { length (packed_meaning self.old).waiting + 10 ≤ (packed_meaning self.old).capacity }
         ensures { Appended self.old (bits_of 10 character) self.new }
     {
-        for k in 0..10u16 {
-            self.append_bit(((character >> (9 - k)) & 1) as u8);
+        for k in 0..10 {
+            self.append_bit(bit_of_character(character, k));
         }
-    }
-
-    // Inverts the bit that waits at a place.
-    fn invert(&mut self, place: usize)
-        requires { place < length (packed_meaning self.old).waiting }
-        ensures line { packed_meaning self.new ≡ (accepted (inverted (packed_meaning self.old).waiting place) (packed_meaning self.old)).line }
-        ensures bits { memory_bits self.new ≡ bits_turned self.old place }
-        ensures lent { self.new.bytes.ghost_name ≡ self.old.bytes.ghost_name }
-    {
-        self.flip(ring_place(self.size, self.front + place));
     }
 }
 
@@ -154,22 +68,18 @@ impl Tap for PackedLine<'_> {
         ensures bytes { self.new.bytes.now ≡ self.old.bytes.now }
         ensures lent { self.new.bytes.ghost_name ≡ self.old.bytes.ghost_name }
     {
-        if self.holds_none() {
-            return None;
-        }
-        let bit = self.first_bit();
-        self.let_go();
-        Some(bit)
+        let place = self.ring.advance()?;
+        Some(bit_of_byte(self.bytes[place / 8], place))
     }
 
     fn count(&self) -> usize {
-        self.waiting()
+        self.ring.count()
     }
 }
 
 impl Line for PackedLine<'_> {
     fn capacity(&self) -> usize {
-        self.size()
+        self.ring.size()
     }
 
     fn put(&mut self, character: u16) -> Result<(), PutRefusal>
@@ -179,12 +89,7 @@ impl Line for PackedLine<'_> {
         ensures bits { memory_bits self.new ≡ stored result (bits_put self.old character) (memory_bits self.old) }
         ensures lent { self.new.bytes.ghost_name ≡ self.old.bytes.ghost_name }
     {
-        if character > 1023 {
-            return Err(PutRefusal::NotACharacter);
-        }
-        if self.capacity() - self.count() < 10 {
-            return Err(PutRefusal::NoRoom);
-        }
+        check_put(self, self.ring.size(), character)?;
         self.append(character);
         Ok(())
     }
@@ -196,10 +101,9 @@ impl Line for PackedLine<'_> {
         ensures bits { memory_bits self.new ≡ stored result (bits_turned self.old place) (memory_bits self.old) }
         ensures lent { self.new.bytes.ghost_name ≡ self.old.bytes.ghost_name }
     {
-        if place >= self.count() {
-            return Err(TurnRefusal::NotWaiting);
-        }
-        self.invert(place);
+        check_turn(self, place)?;
+        let place = self.ring.place(place);
+        flip(self.bytes, place);
         Ok(())
     }
 }

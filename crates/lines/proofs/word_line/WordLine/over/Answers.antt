@@ -1,8 +1,8 @@
 use Rattle.std.proofs.Common.{refl}
-use Rattle.line.specs.Cyclic.{cyclic}
-use Rattle.lines.specs.Words.{character_bits}
+use Rattle.lines.proofs.Characters.{no_characters}
+use Rattle.lines.proofs.Meanings.{same_meaning}
 use Rattle.lines.proofs.word_line.WordLine.over.Goals as goal
 
-pub returns : goal.returns
-unfolding character_bits cyclic
-returns c = record { line = refl; words = refl; lent = refl }
+pub returns-clause-line : goal.returns-clause-line
+returns-clause-line c =
+    same_meaning _ _ (no_characters c.args.memory.now c.over.result 0 c.over.ensures.count refl) refl
