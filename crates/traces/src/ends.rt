@@ -7,6 +7,7 @@ use std::alloc::Global;
 use std::fmt;
 use std::str::FromStr;
 
+// Kept: (4) the drivers' EndStep has these cases too, but is of another crate: nothing can be read or printed as it here
 #[derive(Clone, Copy)]
 enum EndCall {
     Start(u8),

@@ -2,7 +2,7 @@
 use crate::replaying::{Replayed, count_differing};
 use anyhow::Context;
 use code::encode;
-use code::refusal::{Refusal, answer_number};
+use code::refusal::Refusal;
 use line::refusal::PutRefusal;
 use line::tap::{Line, Tap};
 use lines::packed_line::PackedLine;
@@ -13,12 +13,12 @@ use reports::record::DwordRecord;
 use reports::report::{BadReport, Report};
 use std::alloc::Global;
 use std::fmt;
-use std::str::FromStr;
 
+// A call, its arguments as the trace writes them.
 #[derive(Clone, Copy)]
-enum LinkCall {
-    Send(u8, [u8; 4]),
-    Turn(usize),
+enum LinkCall<'a> {
+    Send { kind: &'a str, bytes: &'a str },
+    Turn { place: &'a str },
     Take,
     Hear,
 }
@@ -47,34 +47,32 @@ fn four_bytes(text: &str) -> anyhow::Result<[u8; 4]> {
     Ok(bytes)
 }
 
-impl FromStr for LinkCall {
-    type Err = anyhow::Error;
+impl<'a> TryFrom<&'a str> for LinkCall<'a> {
+    type Error = anyhow::Error;
 
-    fn from_str(text: &str) -> anyhow::Result<LinkCall> {
-        let mut fields = text.split('\t');
+    fn try_from(line: &'a str) -> anyhow::Result<LinkCall<'a>> {
+        let mut fields = line.split('\t');
         match fields.next().context("no call")? {
             "hear" => Ok(LinkCall::Hear),
             "take" => Ok(LinkCall::Take),
             "turn" => {
                 let place = fields.next().context("no argument")?;
-                Ok(LinkCall::Turn(place.parse::<usize>()?))
+                Ok(LinkCall::Turn { place })
             }
             _ => {
                 let kind = fields.next().context("no argument")?;
                 let bytes = fields.next().context("no bytes")?;
-                Ok(LinkCall::Send(kind.parse::<u8>()?, four_bytes(bytes)?))
+                Ok(LinkCall::Send { kind, bytes })
             }
         }
     }
 }
 
-impl fmt::Display for LinkCall {
+impl fmt::Display for LinkCall<'_> {
     fn fmt<W: fmt::Write>(&self, f: &mut fmt::Formatter<W>) -> fmt::Result {
         match self {
-            LinkCall::Send(kind, [a, b, c, d]) => {
-                write!(f, "send\t{kind}\t{a:02X} {b:02X} {c:02X} {d:02X}")
-            }
-            LinkCall::Turn(place) => write!(f, "turn\t{place}"),
+            LinkCall::Send { kind, bytes } => write!(f, "send\t{kind}\t{bytes}"),
+            LinkCall::Turn { place } => write!(f, "turn\t{place}"),
             LinkCall::Take => write!(f, "take"),
             LinkCall::Hear => write!(f, "hear"),
         }
@@ -145,16 +143,20 @@ impl<L: Line> Link<'_, L> {
         0
     }
 
-    fn make_call(&mut self, call: LinkCall) -> LinkAnswer {
+    fn make_call(&mut self, call: LinkCall<'_>) -> anyhow::Result<LinkAnswer> {
         match call {
-            LinkCall::Send(kind, bytes) => LinkAnswer::Number(self.send(kind, bytes)),
-            LinkCall::Turn(place) => LinkAnswer::Number(
-                self.line.turn(place).map_or_else(|r| r.number(), |_| 0),
-            ),
-            LinkCall::Take => LinkAnswer::Taken(self.line.take()),
+            LinkCall::Send { kind, bytes } => {
+                let number = self.send(kind.parse::<u8>()?, four_bytes(bytes)?);
+                Ok(LinkAnswer::Number(number))
+            }
+            LinkCall::Turn { place } => {
+                let turned = self.line.turn(place.parse::<usize>()?);
+                Ok(LinkAnswer::Number(turned.map_or_else(|refusal| refusal.number(), |()| 0)))
+            }
+            LinkCall::Take => Ok(LinkAnswer::Taken(self.line.take())),
             LinkCall::Hear => match self.receiver.hear(self.line) {
-                Ok(heard) => LinkAnswer::Heard(heard),
-                Err(refusal) => LinkAnswer::Number(refusal.number()),
+                Ok(heard) => Ok(LinkAnswer::Heard(heard)),
+                Err(refusal) => Ok(LinkAnswer::Number(refusal.number())),
             },
         }
     }
@@ -162,8 +164,8 @@ impl<L: Line> Link<'_, L> {
 
 impl<L: Line> Replayed for Link<'_, L> {
     fn answer_line(&mut self, heap: Global, line: &str) -> anyhow::Result<String> {
-        let call = line.parse::<LinkCall>()?;
-        let answer = self.make_call(call);
+        let call = LinkCall::try_from(line)?;
+        let answer = self.make_call(call)?;
         Ok(format!(in heap; "{call}\t{answer}")?)
     }
 }
