@@ -106,10 +106,8 @@ impl Readings {
     pub fn verdict(self) -> Option<Verdict>
         ensures { result ≡ verdict self }
     {
-        self.first
-            .verdict()
-            .or(self.second.verdict())
-            .or(self.third.verdict())
-            .or(self.fourth.verdict())
+        let early = self.first.verdict().or(self.second.verdict());
+        let late = self.third.verdict().or(self.fourth.verdict());
+        early.or(late)
     }
 }
