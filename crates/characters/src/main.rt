@@ -3,10 +3,12 @@
 // and every number of ten bits decoded, in both columns. What differs is printed, and at the end a summary.
 #![tactic(auto)]
 
-use code::{DecodeRefusal, decode, encode, examples_hold};
+use code::refusal::answer_number;
+use code::{DecodeRefusal, Encoded, decode, encode, examples_hold};
 use std::io;
 
 // A code with its characters at minus and at plus.
+// Kept: the kind is the table's number, which may be no kind's; its line is then printed as encoded otherwise.
 #[derive(Clone, Copy)]
 struct Row {
     kind: u8,
@@ -21,6 +23,26 @@ struct Column {
     read: u16,
     refused: u16,
     differing: u16,
+}
+
+impl Row {
+    fn character(&self, disparity: u8) -> u16 {
+        if disparity == 0 {
+            self.minus
+        } else {
+            self.plus
+        }
+    }
+
+    // Whether the code is encoded as its character, with the disparity after it that its ones give.
+    fn is_encoded(&self, disparity: u8) -> bool {
+        let character = self.character(disparity);
+        let encoded = Encoded {
+            character,
+            disparity: after_character(character, disparity),
+        };
+        encode(self.kind, self.byte, disparity) == Ok(encoded)
+    }
 }
 
 fn parse_row(line: &str) -> Option<Row> {
@@ -56,31 +78,17 @@ fn after_character(character: u16, disparity: u8) -> u8 {
     after_half(character % 16, 4, after_half(character / 16, 6, disparity))
 }
 
-// Whether the code is encoded as this character, with the disparity after it that its ones give.
-fn encodes(kind: u8, byte: u8, disparity: u8, character: u16) -> bool {
-    match encode(kind, byte, disparity) {
-        Ok(encoded) => encoded.character == character
-            && encoded.disparity == after_character(character, disparity),
-        Err(_) => false,
-    }
-}
-
 // The code that has the character in the column.
-fn find_row(rows: &[Row], character: u16, disparity: u8) -> Option<Row> {
-    for row in rows {
-        let own = if disparity == 0 { row.minus } else { row.plus };
-        if own == character {
-            return Some(*row);
-        }
-    }
-    None
+fn find_row(rows: &[Row], character: u16, disparity: u8) -> Option<&Row> {
+    rows.iter()
+        .find(|row| row.character(disparity) == character)
 }
 
 // Whether the number is decoded as the table says: read as its code, or refused where it has none.
-fn decodes(row: Option<Row>, character: u16, disparity: u8) -> bool {
+fn decodes(row: Option<&Row>, character: u16, disparity: u8) -> bool {
     let next = after_character(character, disparity);
     match (decode(character, disparity), row) {
-        (Ok(decoded), Some(row)) => decoded.code.kind == row.kind
+        (Ok(decoded), Some(row)) => u8::from(decoded.code.kind) == row.kind
             && decoded.code.byte == row.byte
             && decoded.disparity == next,
         (Err(DecodeRefusal::NotInColumn(after)), None) => after == next,
@@ -96,49 +104,35 @@ fn survey(rows: &[Row], disparity: u8) -> Column {
     };
     for character in 0u16..1024 {
         let row = find_row(rows, character, disparity);
-        if !decodes(row, character, disparity) {
-            column.differing = column.differing.saturating_add(1);
+        let count = if !decodes(row, character, disparity) {
+            &mut column.differing
         } else if row.is_some() {
-            column.read = column.read.saturating_add(1);
+            &mut column.read
         } else {
-            column.refused = column.refused.saturating_add(1);
-        }
+            &mut column.refused
+        };
+        *count = count.saturating_add(1);
     }
     column
 }
 
-fn encode_number(kind: u8, byte: u8, disparity: u8) -> u8 {
-    match encode(kind, byte, disparity) {
-        Ok(_) => 0,
-        Err(refusal) => refusal.number(),
-    }
-}
-
-fn decode_number(character: u16, disparity: u8) -> u8 {
-    match decode(character, disparity) {
-        Ok(_) => 0,
-        Err(refusal) => refusal.number(),
-    }
-}
-
 // The refusals at their edges, 0 for none, and which of two comes first.
 fn print_refusals(rt: &HostRuntime) -> io::Result<()> {
-    let kinds = (encode_number(1, 0xBC, 1), encode_number(2, 0xBC, 2));
-    let specials = (encode_number(1, 0x7C, 0), encode_number(1, 0x7D, 2));
-    let disparity = encode_number(0, 0x7D, 2);
     println!(rt;
-        "encode: {} {} {} {} {disparity}",
-        kinds.0, kinds.1, specials.0, specials.1
+        "encode: {} {} {} {} {}",
+        answer_number(&encode(1, 0xBC, 1)),
+        answer_number(&encode(2, 0xBC, 2)),
+        answer_number(&encode(1, 0x7C, 0)),
+        answer_number(&encode(1, 0x7D, 2)),
+        answer_number(&encode(0, 0x7D, 2))
     )?;
-    let numbers = (
-        decode_number(628, 0),
-        decode_number(1024, 2),
-        decode_number(1023, 0),
-    );
-    let column = (decode_number(628, 2), decode_number(628, 1));
     println!(rt;
         "decode: {} {} {} {} {}",
-        numbers.0, numbers.1, numbers.2, column.0, column.1
+        answer_number(&decode(628, 0)),
+        answer_number(&decode(1024, 2)),
+        answer_number(&decode(1023, 0)),
+        answer_number(&decode(628, 2)),
+        answer_number(&decode(628, 1))
     )
 }
 
@@ -157,7 +151,7 @@ fn run(rt: &HostRuntime) -> anyhow::Result<()> {
             println!(rt; "not a row: {line}")?;
             continue;
         };
-        if !encodes(row.kind, row.byte, 0, row.minus) || !encodes(row.kind, row.byte, 1, row.plus) {
+        if !row.is_encoded(0) || !row.is_encoded(1) {
             println!(rt; "encoded otherwise: {line}")?;
         }
         rows.push(row)?;

@@ -1,5 +1,5 @@
 -- The tables of halves: what a half is in its column, and the disparity that it sets or keeps.
-use Rattle.std.proofs.Common.{◌≡◌, ℕ, zero, suc, ◌+◌, ◌-◌, ◌*◌, ◌/◌, ◌%◌, ◌^◌, ◌<◌, Bool, true, false, cond, ◌&&◌, ◌||◌, T, eqb, ltb, List, [], Some, None, Option, unwrap_or, length, get_or, sym, refl, ap, ◌∙◌, subst, ap₂, arith, eqb→eq, lit<, ltb→lt}
+use Rattle.std.proofs.Common.{◌≡◌, ℕ, ◌-◌, ◌*◌, ◌^◌, ◌<◌, Bool, true, false, cond, ◌&&◌, ◌||◌, T, eqb, ltb, List, Some, None, Option, unwrap_or, length, get_or, refl, ap, ◌∙◌, eqb→eq, lit<, ltb→lt}
 use Rattle.code.specs.declared.tables.TheConstants.{SIXES, FOURS, ALTERNATE_SEVEN, SET_BY_SIX, SET_BY_FOUR}
 use Rattle.code.specs.declared.tables.Half.{Half}
 use Rattle.code.specs.Halves.{half_at, half_then, IsHalf}
@@ -7,7 +7,7 @@ use Rattle.code.specs.declared.character.numbers.Disparity.{Disparity}
 use Rattle.code.specs.declared.character.numbers.Disparity.TheVariants.{Minus, Plus}
 use Rattle.code.specs.Disparities.{disparity_number}
 use Rattle.code.specs.Characters.{after, after_half, ones_of, ones_first, ones_last, six_of, four_of, used_after, special_character}
-use Rattle.code.proofs.Computed.{both_left, both_right, passed, entry, at_below}
+use Rattle.code.proofs.Computed.{both_left, both_right, passed, entry}
 
 pub disparity_small : (d : Disparity) → disparity_number d < 2
 disparity_small Minus = lit< tt

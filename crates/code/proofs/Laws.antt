@@ -1,7 +1,7 @@
 -- Laws of encoding, decoding and the disparity: each is one test that antt computes over every code, and a lemma that reads it.
-use Rattle.std.proofs.Common.{◌≡◌, ℕ, zero, suc, ◌-◌, ◌*◌, ◌/◌, ◌%◌, ◌<◌, Bool, true, false, cond, not, ◌&&◌, ◌||◌, T, eqb, ltb, Some, None, sym, refl, ap, ◌∙◌, subst, le_of_suc-le-suc, not-suc-le-zero, arith, lit<, eqb→eq, ltb→lt}
+use Rattle.std.proofs.Common.{◌≡◌, ℕ, zero, suc, ◌-◌, ◌*◌, ◌/◌, ◌%◌, ◌<◌, Bool, true, false, cond, not, ◌&&◌, ◌||◌, T, eqb, ltb, None, sym, refl, ap, ◌∙◌, subst, le_of_suc-le-suc, not-suc-le-zero, arith, lit<, eqb→eq, ltb→lt}
 use Rattle.std.specs.Bool.{then_some}
-use Rattle.std.proofs.lemmas.Bool.{eq-eqb, eqb-true, and_from, both_ways, cond-true, cond-false, ne_eqb, eqb-false, not-true, not-false, and_right}
+use Rattle.std.proofs.lemmas.Bool.{eq-eqb, eqb-true, and_from, both_ways, ne_eqb, eqb-false, not-true, not-false, and_right}
 use Rattle.code.specs.Characters.{encoded, decoded, after, used_after, valid, unlike, OnlyCode, after_half, ones_of, ones_first, ones_last}
 use Rattle.code.specs.Laws as laws
 use Rattle.code.proofs.Computed.{both_left, both_right, implied}

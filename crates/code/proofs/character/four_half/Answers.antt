@@ -1,6 +1,6 @@
 use Rattle.std.proofs.Common.{◌≡◌, ℕ, cond, eqb, subst, arith}
 use Rattle.std.proofs.lemmas.Bool.Decides.{nat_tests}
-use Rattle.code.specs.declared.tables.TheConstants.{FOURS, ALTERNATE_SEVEN}
+use Rattle.code.specs.declared.tables.TheConstants.{ALTERNATE_SEVEN}
 use Rattle.code.specs.Disparities.{disparity_number}
 use Rattle.code.specs.Halves.{IsHalf}
 use Rattle.code.specs.Characters.{four_after, four_of}

@@ -1,4 +1,4 @@
-use Rattle.std.proofs.Common.{◌≡◌, ◌/◌, ◌%◌, ◌<◌, None, get_or, unwrap_or, ap, ◌∙◌, arith}
+use Rattle.std.proofs.Common.{◌≡◌, ◌/◌, ◌%◌, None, get_or, unwrap_or, ap, ◌∙◌, arith}
 use Rattle.code.specs.declared.tables.TheConstants.{SET_BY_SIX, SET_BY_FOUR}
 use Rattle.code.specs.Disparities.{disparity_number}
 use Rattle.code.specs.Characters.{after, after_half}
