@@ -5,6 +5,7 @@ ghost use Rattle.line.specs.Opening.{recording_refusal, record_fault, first_faul
 
 use crate::bits::bit_of_byte;
 use crate::tap::Tap;
+use code::refusal::Refusal;
 
 // What is wrong with one record.
 #[derive(Clone, Copy, PartialEq, Eq, Debug)]
@@ -20,11 +21,10 @@ pub enum RecordingFault {
     InRecord(usize, RecordFault),
 }
 
-impl RecordingFault {
-    // The number that the fault goes by.
-    pub fn number(self) -> u8
-        ensures { result ≡ (recording_refusal self).number }
-    {
+impl Refusal for RecordingFault {
+    ghost number_of = { λ fault. (recording_refusal fault).number };
+
+    fn number(&self) -> u8 {
         match self {
             RecordingFault::WrongLength => 15,
             RecordingFault::InRecord(_, RecordFault::TooManyBits) => 16,
@@ -187,6 +187,7 @@ impl Tap for Recording<'_> {
 #[cfg(test)]
 mod tests {
     use super::*;
+    use code::refusal::answer_number;
     use std::test::Fail;
 
     // A record whose bits are 1, 0, 1.
@@ -195,14 +196,6 @@ mod tests {
         bytes[0] = 3;
         bytes[1] = 0b1010_0000;
         bytes
-    }
-
-    // The number that opening refuses the bytes by, or 0.
-    fn refusal(bytes: &[u8]) -> u8 {
-        match Recording::open(bytes) {
-            Ok(_) => 0,
-            Err(fault) => fault.number(),
-        }
     }
 
     #[test]
@@ -228,13 +221,13 @@ mod tests {
     #[test]
     fn refused_at_the_edges(rt: HostRuntime) {
         let mut bytes = three_bits();
-        assert_eq!(rt; refusal(&bytes[0..15]), 15);
-        assert_eq!(rt; refusal(&bytes), 0);
+        assert_eq!(rt; answer_number(&Recording::open(&bytes[0..15])), 15);
+        assert_eq!(rt; answer_number(&Recording::open(&bytes)), 0);
         bytes[1] = 0b1011_0000;
-        assert_eq!(rt; refusal(&bytes), 17);
+        assert_eq!(rt; answer_number(&Recording::open(&bytes)), 17);
         bytes[0] = 120;
-        assert_eq!(rt; refusal(&bytes), 0);
+        assert_eq!(rt; answer_number(&Recording::open(&bytes)), 0);
         bytes[0] = 121;
-        assert_eq!(rt; refusal(&bytes), 16);
+        assert_eq!(rt; answer_number(&Recording::open(&bytes)), 16);
     }
 }
