@@ -6,6 +6,7 @@
 use anyhow::Context;
 use bringup::end::{Activity, End, Outcome};
 use code::encode;
+use code::refusal::answer_number;
 use line::tap::{Line, Tap};
 use lines::packed_line::PackedLine;
 use lines::word_line::WordLine;
@@ -118,13 +119,6 @@ fn send_number<L: Line>(line: &mut L, disparity: &mut u8, kind: u8, bytes: [u8; 
     0
 }
 
-fn turn_number<L: Line>(line: &mut L, place: usize) -> u8 {
-    match line.turn(place) {
-        Ok(()) => 0,
-        Err(refusal) => refusal.number(),
-    }
-}
-
 fn settled(heap: Global, settlement: Settlement) -> Result<String, AllocError> {
     match settlement {
         Settlement::Unsettled => Ok(String::new(heap)),
@@ -190,7 +184,7 @@ fn link_line<L: Line>(
     }
     let first = fields.next().context("no argument")?;
     if call == "turn" {
-        let number = turn_number(line, first.parse::<usize>()?);
+        let number = answer_number(&line.turn(first.parse::<usize>()?));
         return Ok(format!(in heap; "turn\t{first}\t{number}")?);
     }
     let bytes = fields.next().context("no bytes")?;
