@@ -106,10 +106,7 @@ impl Readings {
     pub fn verdict(self) -> Option<Verdict>
         ensures { result ≡ verdict self }
     {
-        self.first
-            .verdict()
-            .or(self.second.verdict())
-            .or(self.third.verdict())
-            .or(self.fourth.verdict())
+        let later = self.third.verdict().or(self.fourth.verdict());
+        self.first.verdict().or(self.second.verdict()).or(later)
     }
 }
