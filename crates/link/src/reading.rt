@@ -106,8 +106,7 @@ impl Readings {
     pub fn verdict(self) -> Option<Verdict>
         ensures { result ≡ verdict self }
     {
-        let early = self.first.verdict().or(self.second.verdict());
-        let late = self.third.verdict().or(self.fourth.verdict());
-        early.or(late)
+        let later = self.third.verdict().or(self.fourth.verdict());
+        self.first.verdict().or(self.second.verdict()).or(later)
     }
 }
