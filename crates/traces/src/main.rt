@@ -6,7 +6,7 @@
 use anyhow::Context;
 use bringup::end::{Activity, End, Outcome};
 use code::encode;
-use code::refusal::answer_number;
+use code::refusal::{Refusal, answer_number};
 use line::tap::{Line, Tap};
 use lines::packed_line::PackedLine;
 use lines::word_line::WordLine;
