@@ -21,16 +21,28 @@ fn take_number<L: Line>(line: &mut L, bits: usize) -> u16 {
 // Fills a line of 40 bits, where the next character is refused.
 fn fill<L: Line>(rt: &impl Abort, line: &mut L) {
     assert_eq!(rt; answer_number(&line.turn(0)), 4);
-    assert_eq!(rt; [answer_number(&line.put(1)), answer_number(&line.put(1023))], [0, 0]);
-    assert_eq!(rt; [answer_number(&line.put(512)), answer_number(&line.put(682))], [0, 0]);
-    assert_eq!(rt; [answer_number(&line.put(0)), answer_number(&line.put(1024))], [2, 1]);
+    assert_eq!(rt;
+        [answer_number(&line.put(1)), answer_number(&line.put(1023))],
+        [0, 0]
+    );
+    assert_eq!(rt;
+        [answer_number(&line.put(512)), answer_number(&line.put(682))],
+        [0, 0]
+    );
+    assert_eq!(rt;
+        [answer_number(&line.put(0)), answer_number(&line.put(1024))],
+        [2, 1]
+    );
     assert_eq!(rt; line.count(), 40);
 }
 
 // Turns the last bit of the second character and of the fifth, and empties the line.
 fn empty<L: Line>(rt: &impl Abort, line: &mut L) {
     assert_eq!(rt; take_number(line, 11), 3);
-    assert_eq!(rt; [answer_number(&line.put(5)), answer_number(&line.put(5))], [0, 2]);
+    assert_eq!(rt;
+        [answer_number(&line.put(5)), answer_number(&line.put(5))],
+        [0, 2]
+    );
     assert_eq!(rt;
         [
             answer_number(&line.turn(39)),
