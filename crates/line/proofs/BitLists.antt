@@ -1,11 +1,10 @@
 -- Numbers as lists of bits, and lists of numbers as one list of bits.
-use Rattle.std.proofs.Common.{◌≡◌, ℕ, zero, suc, ◌+◌, ◌-◌, ◌*◌, ◌/◌, ◌%◌, ◌^◌, ◌<◌, ◌≤◌, ◌≢◌, List, [], ◌∷◌, ◌++◌, length, get_or, set, sym, refl, ap, ◌∙◌, ⊎_elim, mod-lt, mul-zero, mul-suc, arith}
-use native.Mathlib.Nat.{div_self, div-eq_of_lt, mul-mod_left}
+use Rattle.std.proofs.Common.{◌≡◌, ℕ, zero, suc, ◌+◌, ◌-◌, ◌*◌, ◌/◌, ◌%◌, ◌^◌, ◌<◌, ◌≢◌, List, [], ◌∷◌, ◌++◌, length, get_or, set, sym, refl, ap, ◌∙◌, ⊎_elim, mul-zero, mul-suc, arith}
 use lib.Bits.{bit_xor}
 use Rattle.std.specs.List.{flat_map}
-use Rattle.std.proofs.lemmas.Nat.{shl-shr, xor_shr, xor_mod, pow-add, pow_pos, pow_below}
+use Rattle.std.proofs.lemmas.Nat.Bits.{bit_at-lt, bit_at-pow_same, bit_at-pow_other, bit_at_xor}
 use Rattle.std.proofs.lemmas.List.{same_lists, append_assoc, length-append, length-set, get_or_append_left, get_or-append_right, get_or-set_same, get_or-set_other, set-append_left, set-append_right}
-use Rattle.std.proofs.lemmas.Bool.{cases_eq, cases_lt}
+use Rattle.std.proofs.lemmas.Bool.{cases_eq}
 use Rattle.code.specs.Bits.{bits_of, inverted}
 
 pub length_bits_of : (n x : ℕ) → length (bits_of n x) ≡ n
@@ -60,50 +59,12 @@ joined-set n (y ∷ xs) (suc i) j x b h k e =
     ∙ sym (set-append_right (bits_of n y) (flat_map (bits_of n) xs) n (n * suc i + j) b (length_bits_of n y) (omega (arith, mul-suc n i))
     ∙ ap (λ m. bits_of n y ++ set (flat_map (bits_of n) xs) m b) later)
 
--- Of a power of two only its own bit is set.
-power_bit_same : (m : ℕ) → 2 ^ m / 2 ^ m % 2 ≡ 1
-power_bit_same m = ap (λ k. k % 2) (div_self {n = 2 ^ m} (pow_pos m))
-
-power_bit_below : (m n : ℕ) → n < m → 2 ^ m / 2 ^ n % 2 ≡ 0
-power_bit_below m n below =
-    let more : m ≡ m - n - 1 + 1 + n = omega arith in
-    ap (λ k. 2 ^ k / 2 ^ n % 2) more
-    ∙ (ap (λ k. k / 2 ^ n % 2) (pow-add 2 (m - n - 1 + 1) n)
-    ∙ (ap (λ k. k % 2) (shl-shr (2 ^ (m - n - 1 + 1)) n)
-    ∙ (ap (λ k. k % 2) (pow-add 2 (m - n - 1) 1)
-    ∙ mul-mod_left (2 ^ (m - n - 1)) 2)))
-
-power_bit_above : (m n : ℕ) → m < n → 2 ^ m / 2 ^ n % 2 ≡ 0
-power_bit_above m n above = ap (λ k. k % 2) (div-eq_of_lt {n = 2 ^ m} {m = 2 ^ n} (pow_below m n above))
-
-power_bit_other : (m n : ℕ) → n ≢ m → 2 ^ m / 2 ^ n % 2 ≡ 0
-power_bit_other m n ne =
-    ⊎_elim (power_bit_below m n) (λ (above : m ≤ n). power_bit_above m n (omega arith)) (cases_lt n m)
-
-xor_one : (b : ℕ) → b < 2 → bit_xor b 1 ≡ 1 - b
-xor_one zero h = refl
-xor_one (suc zero) h = refl
-xor_one (suc (suc b)) h = absurd (omega arith)
-
-xor_none : (b : ℕ) → b < 2 → bit_xor b 0 ≡ b
-xor_none zero h = refl
-xor_none (suc zero) h = refl
-xor_none (suc (suc b)) h = absurd (omega arith)
-
 -- An exclusive or with a power of two inverts that bit and keeps the others.
 bit_xor_same : (x m : ℕ) → bit_xor x (2 ^ m) / 2 ^ m % 2 ≡ 1 - x / 2 ^ m % 2
-bit_xor_same x m =
-    ap (λ k. k % 2) (xor_shr x (2 ^ m) m)
-    ∙ (xor_mod (x / 2 ^ m) (2 ^ m / 2 ^ m) 1
-    ∙ (ap (bit_xor (x / 2 ^ m % 2)) (power_bit_same m)
-    ∙ xor_one (x / 2 ^ m % 2) (mod-lt (x / 2 ^ m) (omega arith))))
+bit_xor_same x m = omega (arith, bit_at_xor x (2 ^ m) m, bit_at-pow_same m, bit_at-lt x m)
 
 bit_xor_other : (x m n : ℕ) → n ≢ m → bit_xor x (2 ^ m) / 2 ^ n % 2 ≡ x / 2 ^ n % 2
-bit_xor_other x m n ne =
-    ap (λ k. k % 2) (xor_shr x (2 ^ m) n)
-    ∙ (xor_mod (x / 2 ^ n) (2 ^ m / 2 ^ n) 1
-    ∙ (ap (bit_xor (x / 2 ^ n % 2)) (power_bit_other m n ne)
-    ∙ xor_none (x / 2 ^ n % 2) (mod-lt (x / 2 ^ n) (omega arith))))
+bit_xor_other x m n ne = omega (arith, bit_at_xor x (2 ^ m) n, bit_at-pow_other m n ne, bit_at-lt x n)
 
 -- The bits of a number with the one at place j inverted.
 module _ (n j x : ℕ) (h : j < n) where

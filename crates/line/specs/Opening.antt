@@ -1,8 +1,10 @@
 -- What opening a recording answers.
-use Rattle.std.specs.Prelude.{◌≡◌, ℕ, ◌+◌, ◌%◌, Bool, false, cond, not, ◌||◌, List, [], ◌∷◌, length, drop, Some, None, Ok, Err, Option, Result, ◌==◌, nat_lt, slice_index}
+use Rattle.std.specs.Prelude.{◌≡◌, ℕ, ◌+◌, ◌%◌, Bool, cond, not, ◌||◌, List, [], ◌∷◌, length, drop, Some, None, Ok, Err, Option, Result, ◌==◌, nat_lt, slice_index}
+use Rattle.std.specs.List.{list_any}
 use Rattle.code.specs.Refusals.{Refusal, plain}
 use Rattle.line.specs.Waiting.{Meaning}
-use Rattle.line.specs.Recordings.{records, bit_places, meaning_whole, recording_meaning}
+use Rattle.line.specs.Records.{records, bit_places}
+use Rattle.line.specs.Recordings.{meaning_whole, recording_meaning}
 use Rattle.line.specs.declared.recording.RecordFault.{RecordFault}
 use Rattle.line.specs.declared.recording.RecordFault.TheVariants.{TooManyBits, BitBeyond}
 use Rattle.line.specs.declared.recording.RecordingFault.{RecordingFault}
@@ -17,8 +19,7 @@ recording_refusal (InRecord index BitBeyond) = record { number = 17; values = in
 
 -- Some bit is set.
 abbrev pub any_set : List ℕ → Bool
-any_set [] = false
-any_set (bit ∷ bits) = not (bit == 0) || any_set bits
+any_set bits = list_any (λ bit. not (bit == 0)) bits
 
 -- The fault of a record: its count is above 120, or else a bit is set beyond its count.
 abbrev pub record_fault : List ℕ → Option RecordFault

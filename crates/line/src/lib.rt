@@ -2,6 +2,7 @@
 #![tactic(auto)]
 
 pub mod bits;
+mod record;
 pub mod recording;
 pub mod refusal;
 pub mod ring;

@@ -1,10 +1,10 @@
 // Recordings: bits kept in records of 16 bytes, of which the first counts the bits that the others hold.
-ghost use Rattle.std.specs.Prelude.{◌≡◌, ◌-◌, ◌/◌, ◌%◌, ◌^◌, ◌<◌, ◌≤◌, [], length, slice_index, slice_index_or};
-ghost use Rattle.line.specs.Recordings.{records, bit_places, held_bits, meaning_at, recording_meaning, NextBit};
-ghost use Rattle.line.specs.Opening.{recording_refusal, record_fault, first_fault, opening, opened, OverBytes};
+ghost use Rattle.std.specs.Prelude.{◌≡◌, ◌≤◌, [], length, slice_index_or};
+ghost use Rattle.line.specs.Records.{records, held_bits};
 
-use crate::bits::bit_of_byte;
+use crate::record::{bit_at, first_fault, held, records};
 use crate::tap::Tap;
+use code::refusal::Refusal;
 
 // What is wrong with one record.
 #[derive(Clone, Copy, PartialEq, Eq, Debug)]
@@ -20,11 +20,12 @@ pub enum RecordingFault {
     InRecord(usize, RecordFault),
 }
 
-impl RecordingFault {
-    // The number that the fault goes by.
-    pub fn number(self) -> u8
-        ensures { result ≡ (recording_refusal self).number }
-    {
+impl Refusal for RecordingFault {
+    ghost use Rattle.line.specs.Opening.{recording_refusal};
+
+    ghost number_of = { λ fault. (recording_refusal fault).number };
+
+    fn number(&self) -> u8 {
         match self {
             RecordingFault::WrongLength => 15,
             RecordingFault::InRecord(_, RecordFault::TooManyBits) => 16,
@@ -33,119 +34,25 @@ impl RecordingFault {
     }
 }
 
-// A tap over the bits in borrowed bytes: the record that it has come to, and how many bits of that record are gone.
+// A place in a recording: a record, and how many of its bits are gone.
+#[derive(Clone, Copy)]
+struct Place {
+    index: usize,
+    gone: usize,
+}
+
+// A tap over the bits in borrowed bytes, and the place that it has come to.
 #[derive(Drop)]
 pub struct Recording<'a> {
     bytes: &'a [u8],
-    index: usize,
-    gone: usize,
-}
-
-// How many records the bytes have.
-fn count_records(bytes: &[u8]) -> usize
-    ensures count { result ≡ length (records bytes.now) }
-    ensures few { result ≤ 4096 }
-{
-    (bytes.len() / 16).min(4096)
-}
-
-// The bytes of one record.
-fn record_at(bytes: &[u8], index: usize) -> &[u8]
-    requires { index < length (records bytes.now) }
-    ensures block { result.now ≡ slice_index_or (records bytes.now) index [] }
-    ensures whole { length result.now ≡ 16 }
-{
-    let start = 16 * index;
-    &bytes[start..start + 16]
-}
-
-// The bit at a place of a record.
-fn bit_at(block: &[u8], place: usize) -> u8
-    requires { (length block.now ≡ 16) × (place < 120) }
-    ensures place { result ≡ slice_index (bit_places block.now) place }
-    ensures bit { result < 2 }
-{
-    bit_of_byte(block[1 + place / 8], place)
-}
-
-// How many bits a record holds.
-fn held(block: &[u8]) -> usize
-    requires { length block.now ≡ 16 }
-    ensures count { result ≡ length (held_bits block.now) }
-    ensures few { result ≤ 120 }
-{
-    (block[0] as usize).min(120)
-}
-
-// What is wrong with a record, if anything.
-fn record_fault(block: &[u8]) -> Option<RecordFault>
-    requires { length block.now ≡ 16 }
-    ensures { result ≡ record_fault block.now }
-{
-    let count = block[0] as usize;
-    if count > 120 {
-        return Some(RecordFault::TooManyBits);
-    }
-    for place in count..120 {
-        if bit_at(block, place) != 0 {
-            return Some(RecordFault::BitBeyond);
-        }
-    }
-    None
-}
-
-// The first fault in the records.
-fn first_fault(bytes: &[u8]) -> Option<RecordingFault>
-    ensures { result ≡ first_fault 0 (records bytes.now) }
-{
-    for index in 0..count_records(bytes) {
-        if let Some(fault) = record_fault(record_at(bytes, index)) {
-            return Some(RecordingFault::InRecord(index, fault));
-        }
-    }
-    None
-}
-
-// A bit, and the place after it: a record, and how many of its bits are gone.
-#[derive(Clone, Copy)]
-struct Next {
-    bit: u8,
-    index: usize,
-    gone: usize,
-}
-
-// The next bit from a place on; records with no more bits are passed over.
-fn next_bit(bytes: &[u8], index: usize, mut gone: usize) -> Option<Next>
-    ensures { NextBit bytes.now index gone result }
-{
-    for at in index..count_records(bytes) {
-        let block = record_at(bytes, at);
-        if gone < held(block) {
-            let bit = bit_at(block, gone);
-            return Some(Next {
-                bit,
-                index: at,
-                gone: gone + 1,
-            });
-        }
-        gone = 0;
-    }
-    None
-}
-
-// How many bits wait from a place on.
-fn count_left(bytes: &[u8], index: usize, mut gone: usize) -> usize
-    ensures { result ≡ length (meaning_at bytes.now index gone).waiting }
-{
-    let mut count = 0;
-    for at in index..count_records(bytes) {
-        count += held(record_at(bytes, at)).saturating_sub(gone);
-        gone = 0;
-    }
-    count
+    place: Place,
+    ghost within: { place.gone ≤ length (held_bits (slice_index_or (records bytes.now) place.index [])) },
 }
 
 impl<'a> Recording<'a> {
+    ghost use Rattle.line.specs.Opening.{opening, opened, OverBytes};
+    ghost use Rattle.line.specs.Recordings.{gone_from, FirstPlace};
+
     // Opens the recording that the bytes hold, or answers the first fault in them.
     pub fn open(bytes: &'a [u8]) -> Result<Recording<'a>, RecordingFault>
         ensures answer { opened result ≡ opening bytes.now }
@@ -158,35 +65,64 @@ impl<'a> Recording<'a> {
             Some(fault) => Err(fault),
             None => Ok(Recording {
                 bytes,
-                index: 0,
-                gone: 0,
+                place: Place { index: 0, gone: 0 },
             }),
         }
+    }
+
+    // How many bits are gone from a record, which is the one that it has come to or a later one.
+    fn gone_from(&self, index: usize) -> usize
+        ensures { result ≡ gone_from self.now.place index }
+    {
+        if index == self.place.index {
+            self.place.gone
+        } else {
+            0
+        }
+    }
+
+    // The place of the bit that waits first; records with no more bits are passed over.
+    fn first_place(&self) -> Option<Place>
+        ensures { FirstPlace self.now.bytes.now self.now.place result }
+    {
+        let records = records(self.bytes);
+        let index = (self.place.index..records.len()).find(|index| self.gone_from(*index)
+            < held(&records[*index]))?;
+        Some(Place {
+            index,
+            gone: self.gone_from(index),
+        })
     }
 }
 
 impl Tap for Recording<'_> {
+    ghost use Rattle.line.specs.Recordings.{recording_meaning};
+
     ghost meaning = { recording_meaning };
 
     fn take(&mut self) -> Option<u8> {
-        let next = next_bit(self.bytes, self.index, self.gone)?;
-        self.index = next.index;
-        self.gone = next.gone;
-        Some(next.bit)
+        let Place { index, gone } = self.first_place()?;
+        self.place = Place {
+            index,
+            gone: gone + 1,
+        };
+        Some(bit_at(&records(self.bytes)[index], gone))
     }
 
     fn count(&self) -> usize {
-        count_left(self.bytes, self.index, self.gone)
+        let left = records(self.bytes).iter().skip(self.place.index);
+        left.map(held).sum::<usize>() - self.place.gone
     }
 
     fn is_dry(&self) -> bool {
-        next_bit(self.bytes, self.index, self.gone).is_none()
+        self.first_place().is_none()
     }
 }
 
 #[cfg(test)]
 mod tests {
     use super::*;
+    use code::refusal::answer_number;
     use std::test::Fail;
 
     // A record whose bits are 1, 0, 1.
@@ -195,14 +131,6 @@ mod tests {
         bytes[0] = 3;
         bytes[1] = 0b1010_0000;
         bytes
-    }
-
-    // The number that opening refuses the bytes by, or 0.
-    fn refusal(bytes: &[u8]) -> u8 {
-        match Recording::open(bytes) {
-            Ok(_) => 0,
-            Err(fault) => fault.number(),
-        }
     }
 
     #[test]
@@ -228,13 +156,13 @@ mod tests {
     #[test]
     fn refused_at_the_edges(rt: HostRuntime) {
         let mut bytes = three_bits();
-        assert_eq!(rt; refusal(&bytes[0..15]), 15);
-        assert_eq!(rt; refusal(&bytes), 0);
+        assert_eq!(rt; answer_number(&Recording::open(&bytes[0..15])), 15);
+        assert_eq!(rt; answer_number(&Recording::open(&bytes)), 0);
         bytes[1] = 0b1011_0000;
-        assert_eq!(rt; refusal(&bytes), 17);
+        assert_eq!(rt; answer_number(&Recording::open(&bytes)), 17);
         bytes[0] = 120;
-        assert_eq!(rt; refusal(&bytes), 0);
+        assert_eq!(rt; answer_number(&Recording::open(&bytes)), 0);
         bytes[0] = 121;
-        assert_eq!(rt; refusal(&bytes), 16);
+        assert_eq!(rt; answer_number(&Recording::open(&bytes)), 16);
     }
 }

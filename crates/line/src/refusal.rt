@@ -1,6 +1,7 @@
 // Why a call on a line is refused.
-ghost use Rattle.std.specs.Prelude.{◌≡◌};
 ghost use Rattle.line.specs.Writing.{put_refusal, turn_refusal, memory_refusal};
+
+use code::refusal::Refusal;
 
 // Why a character is not put.
 #[derive(Clone, Copy, PartialEq, Eq, Debug)]
@@ -11,11 +12,10 @@ pub enum PutRefusal {
     NoRoom,
 }
 
-impl PutRefusal {
-    // The number that the refusal goes by.
-    pub fn number(self) -> u8
-        ensures { result ≡ (put_refusal self).number }
-    {
+impl Refusal for PutRefusal {
+    ghost number_of = { λ refusal. (put_refusal refusal).number };
+
+    fn number(&self) -> u8 {
         match self {
             PutRefusal::NotACharacter => 1,
             PutRefusal::NoRoom => 2,
@@ -30,11 +30,10 @@ pub enum TurnRefusal {
     NotWaiting,
 }
 
-impl TurnRefusal {
-    // The number that the refusal goes by.
-    pub fn number(self) -> u8
-        ensures { result ≡ (turn_refusal self).number }
-    {
+impl Refusal for TurnRefusal {
+    ghost number_of = { λ refusal. (turn_refusal refusal).number };
+
+    fn number(&self) -> u8 {
         match self {
             TurnRefusal::NotWaiting => 4,
         }
@@ -48,11 +47,10 @@ pub enum MemoryRefusal {
     OutOfRange,
 }
 
-impl MemoryRefusal {
-    // The number that the refusal goes by.
-    pub fn number(self) -> u8
-        ensures { result ≡ (memory_refusal self).number }
-    {
+impl Refusal for MemoryRefusal {
+    ghost number_of = { λ refusal. (memory_refusal refusal).number };
+
+    fn number(&self) -> u8 {
         match self {
             MemoryRefusal::OutOfRange => 3,
         }

@@ -1,25 +1,10 @@
 // Each test of a line is written once, and run on both kinds.
+use code::refusal::{Refusal, answer_number};
 use line::refusal::MemoryRefusal;
 use line::tap::{Line, Tap};
 use lines::packed_line::PackedLine;
 use lines::word_line::WordLine;
 use std::process::Abort;
-
-// The number that putting the character is refused by, or 0.
-fn put_refusal<L: Line>(line: &mut L, character: u16) -> u8 {
-    match line.put(character) {
-        Ok(()) => 0,
-        Err(refusal) => refusal.number(),
-    }
-}
-
-// The number that turning the place is refused by, or 0.
-fn turn_refusal<L: Line>(line: &mut L, place: usize) -> u8 {
-    match line.turn(place) {
-        Ok(()) => 0,
-        Err(refusal) => refusal.number(),
-    }
-}
 
 // The number that the next bits make; 65,535 where the line runs dry.
 fn take_number<L: Line>(line: &mut L, bits: usize) -> u16 {
@@ -35,22 +20,22 @@ fn take_number<L: Line>(line: &mut L, bits: usize) -> u16 {
 
 // Fills a line of 40 bits, where the next character is refused.
 fn fill<L: Line>(rt: &impl Abort, line: &mut L) {
-    assert_eq!(rt; turn_refusal(line, 0), 4);
-    assert_eq!(rt; [put_refusal(line, 1), put_refusal(line, 1023)], [0, 0]);
-    assert_eq!(rt; [put_refusal(line, 512), put_refusal(line, 682)], [0, 0]);
-    assert_eq!(rt; [put_refusal(line, 0), put_refusal(line, 1024)], [2, 1]);
+    assert_eq!(rt; answer_number(&line.turn(0)), 4);
+    assert_eq!(rt; [answer_number(&line.put(1)), answer_number(&line.put(1023))], [0, 0]);
+    assert_eq!(rt; [answer_number(&line.put(512)), answer_number(&line.put(682))], [0, 0]);
+    assert_eq!(rt; [answer_number(&line.put(0)), answer_number(&line.put(1024))], [2, 1]);
     assert_eq!(rt; line.count(), 40);
 }
 
 // Turns the last bit of the second character and of the fifth, and empties the line.
 fn empty<L: Line>(rt: &impl Abort, line: &mut L) {
     assert_eq!(rt; take_number(line, 11), 3);
-    assert_eq!(rt; [put_refusal(line, 5), put_refusal(line, 5)], [0, 2]);
+    assert_eq!(rt; [answer_number(&line.put(5)), answer_number(&line.put(5))], [0, 2]);
     assert_eq!(rt;
         [
-            turn_refusal(line, 39),
-            turn_refusal(line, 38),
-            turn_refusal(line, 8),
+            answer_number(&line.turn(39)),
+            answer_number(&line.turn(38)),
+            answer_number(&line.turn(8)),
         ],
         [4, 0, 0]
     );
@@ -73,9 +58,9 @@ fn refuse_all<L: Line>(rt: &impl Abort, line: &mut L) {
     assert_eq!(rt; line.capacity(), 0);
     assert_eq!(rt;
         [
-            put_refusal(line, 0),
-            put_refusal(line, 1024),
-            turn_refusal(line, 0),
+            answer_number(&line.put(0)),
+            answer_number(&line.put(1024)),
+            answer_number(&line.turn(0)),
         ],
         [2, 1, 4]
     );
@@ -84,10 +69,7 @@ fn refuse_all<L: Line>(rt: &impl Abort, line: &mut L) {
 
 // The capacity that memory checks at, or the number of the refusal.
 fn checked(answer: Result<usize, MemoryRefusal>) -> usize {
-    match answer {
-        Ok(capacity) => capacity,
-        Err(refusal) => refusal.number() as usize,
-    }
+    answer.unwrap_or_else(|refusal| refusal.number() as usize)
 }
 
 #[test]

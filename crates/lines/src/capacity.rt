@@ -5,12 +5,17 @@ ghost use Rattle.line.specs.Writing.{memory_refusal, line_capacity, checking};
 
 use line::refusal::MemoryRefusal;
 
+// The fewest and the most bits that a line can hold.
+const FEWEST: usize = 40;
+
+const MOST: usize = 65_530;
+
 // Checks memory of so many elements, each of so many bits, for a line.
 pub fn check_memory(bits: usize, elements: usize) -> Result<usize, MemoryRefusal>
     ensures { numbered memory_refusal result ≡ checking (bits * elements) }
 {
     let tens = bits.saturating_mul(elements) / 10 * 10;
-    if tens < 40 || tens > 65_530 {
+    if tens < FEWEST || tens > MOST {
         return Err(MemoryRefusal::OutOfRange);
     }
     Ok(tens)

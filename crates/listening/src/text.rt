@@ -4,6 +4,7 @@ ghost use Rattle.listening.specs.declared.text.ListenFault.TheVariants.{NotOpene
 ghost use Rattle.reports.specs.Queues.{elements, memory_of};
 ghost use Rattle.listening.specs.Listening.{lines_of, told, taken, listening, Listened, fault_text};
 
+use code::refusal::Refusal;
 use line::recording::{Recording, RecordingFault};
 use line::tap::Tap;
 use link::receiver::Receiver;

@@ -9,7 +9,7 @@ use lines::word_line::WordLine;
 use std::env;
 
 // What went through.
-#[derive(Clone, Copy)]
+#[derive(Clone, Copy, Default)]
 struct Count {
     bits: u64,
     ones: u64,
@@ -17,7 +17,7 @@ struct Count {
 
 // Each round puts a character, turns one of its bits, and takes ten bits.
 fn go_round<L: Line>(line: &mut L, rounds: u64) -> Count {
-    let mut count = Count { bits: 0, ones: 0 };
+    let mut count = Count::default();
     for round in 0..rounds {
         let _ = line.put((round % 1024) as u16);
         let _ = line.turn((round % 10) as usize);

@@ -58,6 +58,7 @@ impl<'a> PackedLine<'a> {
 }
 
 // Each call also says what the memory holds after it, and that it is still the memory that was lent.
+// Kept: `lent` stands in each call, since each promises it to callers; the memory is a field, which a trait's clause cannot name.
 impl Tap for PackedLine<'_> {
     ghost meaning = { packed_meaning };
 
@@ -77,6 +78,7 @@ impl Tap for PackedLine<'_> {
     }
 }
 
+// Kept: put and turn check first in both lines and then write their own way; a trait for what they write has as many clauses again.
 impl Line for PackedLine<'_> {
     fn capacity(&self) -> usize {
         self.ring.size()

@@ -50,6 +50,7 @@ impl<'a> WordLine<'a> {
 }
 
 // Each call also says what the memory holds after it, and that it is still the memory that was lent.
+// Kept: `lent` stands in each call, since each promises it to callers; the memory is a field, which a trait's clause cannot name.
 impl Tap for WordLine<'_> {
     ghost meaning = { word_meaning };
 
@@ -71,6 +72,7 @@ impl Tap for WordLine<'_> {
     }
 }
 
+// Kept: put and turn check first in both lines and then write their own way; a trait for what they write has as many clauses again.
 impl Line for WordLine<'_> {
     fn capacity(&self) -> usize {
         10 * self.ring.size()
