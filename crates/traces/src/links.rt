@@ -2,7 +2,7 @@
 use crate::replaying::{Replayed, count_differing};
 use anyhow::Context;
 use code::encode;
-use code::refusal::Refusal;
+use code::refusal::{Refusal, answer_number};
 use line::refusal::PutRefusal;
 use line::tap::{Line, Tap};
 use lines::packed_line::PackedLine;
@@ -151,7 +151,7 @@ impl<L: Line> Link<'_, L> {
             }
             LinkCall::Turn { place } => {
                 let turned = self.line.turn(place.parse::<usize>()?);
-                Ok(LinkAnswer::Number(turned.map_or_else(|refusal| refusal.number(), |()| 0)))
+                Ok(LinkAnswer::Number(answer_number(&turned)))
             }
             LinkCall::Take => Ok(LinkAnswer::Taken(self.line.take())),
             LinkCall::Hear => match self.receiver.hear(self.line) {
