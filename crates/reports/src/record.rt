@@ -25,45 +25,21 @@ impl From<GoodDword> for DwordRecord {
     }
 }
 
-// A byte as two hexadecimal digits.
-// Kept: `{:02X}` prints the same, but with it `listen` takes an eighth more time.
-#[derive(Clone, Copy)]
-struct HexByte(u8);
-
-fn hex_digit(n: u8) -> char
-    requires { n < 16 }
-    ensures { result ≡ digit_glyph true n }
-{
-    if n < 10 {
-        (b'0' + n) as char
-    } else {
-        (b'A' + (n - 10)) as char
-    }
-}
-
-impl fmt::Display for HexByte {
-    ghost output = { λ x. Some (hex_pair x.0) };
-
-    fn fmt<W: fmt::Write>(&self, f: &mut fmt::Formatter<W>) -> fmt::Result {
-        let high = hex_digit(self.0 / 16);
-        let low = hex_digit(self.0 % 16);
-        write!(f, "{high}{low}")
-    }
-}
-
 impl fmt::Display for DwordRecord {
     ghost output = { λ x. Some (dword_text x) };
 
     fn fmt<W: fmt::Write>(&self, f: &mut fmt::Formatter<W>) -> fmt::Result {
-        let DwordRecord { number, dword } = *self;
-        let kind = dword.kind;
+        let number = self.number;
+        let Dword {
+            kind,
+            b0,
+            b1,
+            b2,
+            b3,
+        } = self.dword;
         write!(
             f,
-            "dword {number} {kind} {} {} {} {}",
-            HexByte(dword.b0),
-            HexByte(dword.b1),
-            HexByte(dword.b2),
-            HexByte(dword.b3)
+            "dword {number} {kind} {b0:02X} {b1:02X} {b2:02X} {b3:02X}"
         )
     }
 }
