@@ -51,17 +51,10 @@ fn alike_after(signal: Option<Signal>, before: Option<Signal>, count: u8) -> u8
 }
 
 // `from` counted up by `count`, to at most `cap`.
-// Kept: `from + count.min(cap.saturating_sub(from))` makes each note a tenth slower.
 pub fn count_up(cap: u32, from: u32, count: u32) -> u32
     ensures { result ≡ capped cap from count }
 {
-    if from >= cap {
-        from
-    } else if cap - from <= count {
-        cap
-    } else {
-        from + count
-    }
+    from + count.min(cap.saturating_sub(from))
 }
 
 impl Detector {

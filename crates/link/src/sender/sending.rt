@@ -52,41 +52,38 @@ fn check_room<L: Line>(line: &L) -> Result<(), SendRefusal>
     Ok(())
 }
 
-// Puts the character of a code, and answers the disparity after it.
-// Kept: the kind is a number as in its dword, and the disparity is handed on: kept in the sender, each send took longer.
-#[tactic(auto, using(code::proofs::Laws::characters_fit, code::proofs::Laws::disparity_fits, crate::proofs::Puttings::ten_longer))]
-fn put_code<L: Line>(line: &mut L, kind: u8, byte: u8, disparity: u8) -> u8
-    requires { (T (valid kind byte)) × ((disparity < 2) × (length (L.Tap.meaning line.old).waiting + 10 ≤ (L.Tap.meaning line.old).capacity)) }
-    ensures line { L.Tap.meaning line.new ≡ followed_by (L.Tap.meaning line.old) (bits_of 10 (encoded kind byte disparity)) }
-    ensures disparity { result ≡ after (encoded kind byte disparity) disparity }
-    ensures binary { result < 2 }
-    ensures longer { length (L.Tap.meaning line.new).waiting ≡ length (L.Tap.meaning line.old).waiting + 10 }
-{
-    // Kept: the code and the room were tested; encoding and putting refuse by number, so no type rules that out.
-    let Ok(encoded) = encode(kind, byte, disparity) else {
-        unreachable()
-    };
-    let Ok(()) = line.put(encoded.character) else {
-        unreachable()
-    };
-    encoded.disparity
-}
-
-// Puts the four characters of a dword, and answers the disparity after them.
-#[tactic(auto, using(crate::proofs::Puttings::dword_put))]
-fn put_dword<L: Line>(line: &mut L, dword: Dword, disparity: u8) -> u8
-    requires { (T (valid dword.kind dword.b0)) × ((disparity < 2) × (length (L.Tap.meaning line.old).waiting + 40 ≤ (L.Tap.meaning line.old).capacity)) }
-    ensures line { L.Tap.meaning line.new ≡ followed_by (L.Tap.meaning line.old) (dword_bits disparity dword) }
-    ensures disparity { result ≡ disparity_after disparity dword }
-    ensures binary { result < 2 }
-{
-    let second = put_code(line, dword.kind, dword.b0, disparity);
-    let third = put_code(line, 0, dword.b1, second);
-    let fourth = put_code(line, 0, dword.b2, third);
-    put_code(line, 0, dword.b3, fourth)
-}
-
 impl Sender {
+    // Puts the character of a code, whose kind is a number as in its dword.
+    #[tactic(auto, using(code::proofs::Laws::characters_fit, code::proofs::Laws::disparity_fits, crate::proofs::Puttings::ten_longer))]
+    fn put_code<L: Line>(&mut self, line: &mut L, kind: u8, byte: u8)
+        requires { (T (valid kind byte)) × (length (L.Tap.meaning line.old).waiting + 10 ≤ (L.Tap.meaning line.old).capacity) }
+        ensures line { L.Tap.meaning line.new ≡ followed_by (L.Tap.meaning line.old) (bits_of 10 (encoded kind byte self.old.disparity)) }
+        ensures disparity { self.new.disparity ≡ after (encoded kind byte self.old.disparity) self.old.disparity }
+        ensures longer { length (L.Tap.meaning line.new).waiting ≡ length (L.Tap.meaning line.old).waiting + 10 }
+    {
+        // Kept: the code and the room were tested; encoding and putting refuse by number, so no type rules that out.
+        let Ok(encoded) = encode(kind, byte, self.disparity) else {
+            unreachable()
+        };
+        let Ok(()) = line.put(encoded.character) else {
+            unreachable()
+        };
+        self.disparity = encoded.disparity;
+    }
+
+    // Puts the four characters of a dword.
+    #[tactic(auto, using(crate::proofs::Puttings::dword_put))]
+    fn put_dword<L: Line>(&mut self, line: &mut L, dword: Dword)
+        requires { (T (valid dword.kind dword.b0)) × (length (L.Tap.meaning line.old).waiting + 40 ≤ (L.Tap.meaning line.old).capacity) }
+        ensures line { L.Tap.meaning line.new ≡ followed_by (L.Tap.meaning line.old) (dword_bits self.old.disparity dword) }
+        ensures disparity { self.new.disparity ≡ disparity_after self.old.disparity dword }
+    {
+        self.put_code(line, dword.kind, dword.b0);
+        self.put_code(line, 0, dword.b1);
+        self.put_code(line, 0, dword.b2);
+        self.put_code(line, 0, dword.b3);
+    }
+
     // Puts a dword on a line.
     pub fn send<L: Line>(&mut self, line: &mut L, dword: Dword) -> Result<(), SendRefusal>
         ensures answer { numbered send_refusal result ≡ (sending self.old.disparity (L.Tap.meaning line.old) dword).answer }
@@ -98,7 +95,7 @@ impl Sender {
     {
         check_codes(dword)?;
         check_room(line)?;
-        self.disparity = put_dword(line, dword, self.disparity);
+        self.put_dword(line, dword);
         Ok(())
     }
 }
