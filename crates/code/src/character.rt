@@ -3,15 +3,16 @@ ghost use Rattle.std.specs.Prelude.{◌≡◌, ◌<◌};
 ghost use Rattle.code.specs.Kinds.{kind_number};
 ghost use Rattle.code.specs.Disparities.{disparity_number};
 ghost use Rattle.code.specs.Halves.{IsHalf};
-ghost use Rattle.code.specs.Characters.{after, is_alternate, four_after, valid, valid_code, unlike};
+ghost use Rattle.code.specs.Characters.{is_alternate, four_after, valid, valid_code, unlike};
 ghost use Rattle.code.specs.Encodings.{data_sent, special_sent, sent_as};
 
-use crate::tables::{ALTERNATE_SEVEN, FOURS, Half, SET_BY_FOUR, SET_BY_SIX, SIXES};
+use crate::tables::{ALTERNATE_SEVEN, FOURS, Half, SIXES};
 
 pub mod decoding;
 pub mod encoding;
 pub mod examples;
 pub mod numbers;
+mod received;
 
 use numbers::{Disparity, Kind};
 
@@ -33,15 +34,6 @@ pub struct Code {
 pub struct Encoded {
     pub character: u16,
     pub disparity: u8,
-}
-
-// The disparity after a received character, valid or not.
-fn next_disparity(character: u16, disparity: Disparity) -> Disparity
-    requires { character < 1024 }
-    ensures { disparity_number result ≡ after character (disparity_number disparity) }
-{
-    let middle = SET_BY_SIX[(character / 16) as usize].unwrap_or(disparity);
-    SET_BY_FOUR[(character % 16) as usize].unwrap_or(middle)
 }
 
 // Whether a byte's four-bit half is alternate: that of a high 7 after some low bits.
