@@ -24,6 +24,7 @@ pub enum SendRefusal {
 }
 
 // It keeps only the disparity of the next character.
+// Kept: a number, since the laws of senders count with it and `encode` takes a number.
 #[derive(Drop)]
 pub struct Sender {
     disparity: u8,

@@ -20,7 +20,7 @@ pub(crate) fn drive<D: Driven>(driven: &mut D, calls: &[D::Call], answers: &mut 
     ensures steps { Steps D.step driven.old calls.now (take (length calls.now) answers.new) driven.new }
     ensures rest { drop (length calls.now) answers.new ≡ drop (length calls.now) answers.old }
 {
-    // Kept: (3) over answers.iter_mut().zip(calls) the proof knows no answer once the loop is over
+    // Kept: tried over answers.iter_mut().zip(calls), and the proof did not close: it knows no answer after that loop.
     for (i, call) in calls.iter().enumerate() {
         answers[i] = driven.call(*call);
     }

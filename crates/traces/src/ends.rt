@@ -7,7 +7,7 @@ use std::alloc::Global;
 use std::fmt;
 use std::str::FromStr;
 
-// Kept: (4) the drivers' EndStep has these cases too, but is of another crate: nothing can be read or printed as it here
+// Kept: EndStep of the drivers has these cases too, but it is another crate's and can be neither parsed nor printed here.
 #[derive(Clone, Copy)]
 enum EndCall {
     Start(u8),

@@ -1,8 +1,6 @@
 // Decoding: from a character to the code that stands for it in a column.
-ghost use Rattle.std.specs.Prelude.{◌≡◌, ◌<◌, ◌&&◌, ◌==◌};
-ghost use Rattle.code.specs.Kinds.{kind_number};
-ghost use Rattle.code.specs.Disparities.{disparity_number};
-ghost use Rattle.code.specs.Characters.{encoded, valid, unlike, decoded, OnlyCode};
+ghost use Rattle.std.specs.Prelude.{◌≡◌};
+ghost use Rattle.code.specs.Characters.{unlike};
 ghost use Rattle.code.specs.Refusals.{numbered};
 ghost use Rattle.code.specs.Decodings.{decode_refusal, decoding};
 ghost use Rattle.code.specs.declared.character.decoding.DecodeRefusal.TheVariants.{DisparityAboveOne};
