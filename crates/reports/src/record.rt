@@ -1,7 +1,6 @@
 // Dwords that were handed out, and how they are printed.
-ghost use Rattle.std.specs.Prelude.{◌≡◌, ◌<◌, true, Some};
-ghost use Rattle.std.specs.Fmt.{digit_glyph};
-ghost use Rattle.reports.specs.Shown.{dword_record, hex_pair, dword_text};
+ghost use Rattle.std.specs.Prelude.{◌≡◌, Some};
+ghost use Rattle.reports.specs.Shown.{dword_record, dword_text};
 
 use link::dword::Dword;
 use link::heard::GoodDword;
