@@ -3,12 +3,14 @@
 // and every number of ten bits decoded, in both columns. What differs is printed, and at the end a summary.
 #![tactic(auto)]
 
+use anyhow::Context;
 use code::refusal::answer_number;
-use code::{DecodeRefusal, Encoded, decode, encode, examples_hold};
-use std::io;
+use code::{Code, DecodeRefusal, Decoded, Encoded, Kind, decode, encode, examples_hold};
+use std::str::FromStr;
+use std::{fmt, io};
 
 // A code with its characters at minus and at plus.
-// Kept: the kind is the table's number, which may be no kind's; its line is then printed as encoded otherwise.
+// Kept: the kind is a number, which the table may give above 1, and `encode` refuses such by number.
 #[derive(Clone, Copy)]
 struct Row {
     kind: u8,
@@ -18,14 +20,50 @@ struct Row {
 }
 
 // What a column of the table holds against decoding all numbers of ten bits.
-#[derive(Clone, Copy)]
+#[derive(Clone, Copy, Default)]
 struct Column {
     read: u16,
     refused: u16,
     differing: u16,
 }
 
+impl FromStr for Row {
+    type Err = anyhow::Error;
+
+    fn from_str(line: &str) -> anyhow::Result<Row> {
+        let mut fields = line.split('\t').skip(1);
+        let kind = fields.next().context("no kind")?.parse::<u8>()?;
+        let byte = u8::from_str_radix(fields.next().context("no byte")?, 16)?;
+        let minus = u16::from_str_radix(fields.next().context("no character")?, 2)?;
+        let plus = u16::from_str_radix(fields.next().context("no second character")?, 2)?;
+        Ok(Row {
+            kind,
+            byte,
+            minus,
+            plus,
+        })
+    }
+}
+
+impl fmt::Display for Column {
+    fn fmt<W: fmt::Write>(&self, f: &mut fmt::Formatter<W>) -> fmt::Result {
+        let Column {
+            read,
+            refused,
+            differing,
+        } = *self;
+        write!(f, "{read} read, {refused} refused, {differing} differing")
+    }
+}
+
 impl Row {
+    // The code, if the kind is one.
+    fn code(&self) -> Option<Code> {
+        let kind = Kind::try_from(self.kind).ok()?;
+        let byte = self.byte;
+        Some(Code { kind, byte })
+    }
+
     fn character(&self, disparity: u8) -> u16 {
         if disparity == 0 {
             self.minus
@@ -43,21 +81,6 @@ impl Row {
         };
         encode(self.kind, self.byte, disparity) == Ok(encoded)
     }
-}
-
-fn parse_row(line: &str) -> Option<Row> {
-    let mut fields = line.split('\t');
-    let _name = fields.next()?;
-    let kind = fields.next()?.parse::<u8>().ok()?;
-    let byte = u8::from_str_radix(fields.next()?, 16).ok()?;
-    let minus = u16::from_str_radix(fields.next()?, 2).ok()?;
-    let plus = u16::from_str_radix(fields.next()?, 2).ok()?;
-    Some(Row {
-        kind,
-        byte,
-        minus,
-        plus,
-    })
 }
 
 // The disparity after a half of so many bits, from a count of its ones.
@@ -86,22 +109,21 @@ fn find_row(rows: &[Row], character: u16, disparity: u8) -> Option<&Row> {
 
 // Whether the number is decoded as the table says: read as its code, or refused where it has none.
 fn decodes(row: Option<&Row>, character: u16, disparity: u8) -> bool {
-    let next = after_character(character, disparity);
-    match (decode(character, disparity), row) {
-        (Ok(decoded), Some(row)) => u8::from(decoded.code.kind) == row.kind
-            && decoded.code.byte == row.byte
-            && decoded.disparity == next,
-        (Err(DecodeRefusal::NotInColumn(after)), None) => after == next,
-        _ => false,
-    }
+    let disparity_after = after_character(character, disparity);
+    let expected = match row {
+        Some(row) => row.code().map(|code| {
+            Ok(Decoded {
+                code,
+                disparity: disparity_after,
+            })
+        }),
+        None => Some(Err(DecodeRefusal::NotInColumn(disparity_after))),
+    };
+    expected == Some(decode(character, disparity))
 }
 
 fn survey(rows: &[Row], disparity: u8) -> Column {
-    let mut column = Column {
-        read: 0,
-        refused: 0,
-        differing: 0,
-    };
+    let mut column = Column::default();
     for character in 0u16..1024 {
         let row = find_row(rows, character, disparity);
         let count = if !decodes(row, character, disparity) {
@@ -136,18 +158,11 @@ fn print_refusals(rt: &HostRuntime) -> io::Result<()> {
     )
 }
 
-fn print_column(rt: &HostRuntime, name: &str, column: Column) -> io::Result<()> {
-    println!(rt;
-        "{name}: {} read, {} refused, {} differing",
-        column.read, column.refused, column.differing
-    )
-}
-
 fn run(rt: &HostRuntime) -> anyhow::Result<()> {
     let text = io::read_to_string(rt.alloc(), rt.stdin())?;
     let mut rows = Vec::new(rt.alloc());
     for line in text.lines().skip(1) {
-        let Some(row) = parse_row(line) else {
+        let Ok(row) = line.parse::<Row>() else {
             println!(rt; "not a row: {line}")?;
             continue;
         };
@@ -157,8 +172,8 @@ fn run(rt: &HostRuntime) -> anyhow::Result<()> {
         rows.push(row)?;
     }
     println!(rt; "{} codes", rows.len())?;
-    print_column(rt, "minus", survey(&rows, 0))?;
-    print_column(rt, "plus", survey(&rows, 1))?;
+    println!(rt; "minus: {}", survey(&rows, 0))?;
+    println!(rt; "plus: {}", survey(&rows, 1))?;
     print_refusals(rt)?;
     println!(rt; "examples hold: {}", examples_hold())?;
     Ok(())

@@ -6,16 +6,13 @@ use lines::packed_line::PackedLine;
 use lines::word_line::WordLine;
 use std::process::Abort;
 
-// The number that the next bits make; 65,535 where the line runs dry.
-fn take_number<L: Line>(line: &mut L, bits: usize) -> u16 {
+// The number that the next bits make; none where the line runs dry.
+fn take_number<L: Line>(line: &mut L, bits: usize) -> Option<u16> {
     let mut number = 0u16;
     for _ in 0..bits {
-        let Some(bit) = line.take() else {
-            return 0xFFFF;
-        };
-        number = (number << 1) | bit as u16;
+        number = (number << 1) | line.take()? as u16;
     }
-    number
+    Some(number)
 }
 
 // Fills a line of 40 bits, where the next character is refused.
@@ -38,7 +35,7 @@ fn fill<L: Line>(rt: &impl Abort, line: &mut L) {
 
 // Turns the last bit of the second character and of the fifth, and empties the line.
 fn empty<L: Line>(rt: &impl Abort, line: &mut L) {
-    assert_eq!(rt; take_number(line, 11), 3);
+    assert_eq!(rt; take_number(line, 11), Some(3));
     assert_eq!(rt;
         [answer_number(&line.put(5)), answer_number(&line.put(5))],
         [0, 2]
@@ -51,8 +48,14 @@ fn empty<L: Line>(rt: &impl Abort, line: &mut L) {
         ],
         [4, 0, 0]
     );
-    assert_eq!(rt; [take_number(line, 9), take_number(line, 10)], [510, 512]);
-    assert_eq!(rt; [take_number(line, 10), take_number(line, 10)], [682, 4]);
+    assert_eq!(rt;
+        [take_number(line, 9), take_number(line, 10)],
+        [Some(510), Some(512)]
+    );
+    assert_eq!(rt;
+        [take_number(line, 10), take_number(line, 10)],
+        [Some(682), Some(4)]
+    );
     assert_eq!(rt; line.take(), None);
 }
 
@@ -79,11 +82,6 @@ fn refuse_all<L: Line>(rt: &impl Abort, line: &mut L) {
     assert_eq!(rt; line.take(), None);
 }
 
-// The capacity that memory checks at, or the number of the refusal.
-fn checked(answer: Result<usize, MemoryRefusal>) -> usize {
-    answer.unwrap_or_else(|refusal| refusal.number() as usize)
-}
-
 #[test]
 fn packed_line_goes_round(rt: HostRuntime) {
     run_rounds(&rt, &mut PackedLine::over(&mut [0xA5; 5]));
@@ -104,32 +102,25 @@ fn lines_out_of_range_refuse(rt: HostRuntime) {
 
 #[test]
 fn memory_checked_at_the_edges(rt: HostRuntime) {
+    let refused = Err(MemoryRefusal::OutOfRange);
+    assert_eq!(rt; MemoryRefusal::OutOfRange.number(), 3);
     assert_eq!(rt;
-        [
-            checked(PackedLine::check(&[0; 4])),
-            checked(PackedLine::check(&[0; 5])),
-        ],
-        [3, 40]
+        [PackedLine::check(&[0; 4]), PackedLine::check(&[0; 5])],
+        [refused, Ok(40)]
     );
     assert_eq!(rt;
         [
-            checked(PackedLine::check(&[0; 8192])),
-            checked(PackedLine::check(&[0; 8193])),
+            PackedLine::check(&[0; 8192]),
+            PackedLine::check(&[0; 8193]),
         ],
-        [65_530, 3]
+        [Ok(65_530), refused]
     );
     assert_eq!(rt;
-        [
-            checked(WordLine::check(&[0; 3])),
-            checked(WordLine::check(&[0; 4])),
-        ],
-        [3, 40]
+        [WordLine::check(&[0; 3]), WordLine::check(&[0; 4])],
+        [refused, Ok(40)]
     );
     assert_eq!(rt;
-        [
-            checked(WordLine::check(&[0; 6553])),
-            checked(WordLine::check(&[0; 6554])),
-        ],
-        [65_530, 3]
+        [WordLine::check(&[0; 6553]), WordLine::check(&[0; 6554])],
+        [Ok(65_530), refused]
     );
 }
