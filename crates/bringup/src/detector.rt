@@ -2,7 +2,7 @@
 ghost use Rattle.std.specs.Prelude.{◌≡◌};
 ghost use Rattle.bringup.specs.Detection.{signal_of, alike_after, passed, risen, ceased};
 ghost use Rattle.bringup.specs.Bringup.{signalled};
-ghost use Rattle.bringup.specs.Skipping.{capped, rested, OnlyRests};
+ghost use Rattle.bringup.specs.Skipping.{capped, rested, detector_calm, OnlyRests};
 
 use crate::end::MOST_TICKS;
 use crate::signal::Signal;
@@ -111,7 +111,8 @@ impl Detector {
 
     // For how many ticks COMSAS does not fall.
     pub fn calm(&self) -> u32
-        ensures { OnlyRests result self.now }
+        ensures longest { result ≡ detector_calm self.now }
+        ensures rests { OnlyRests result self.now }
     {
         if self.burst || !self.comsas || self.fallen {
             MOST_TICKS

@@ -1,8 +1,8 @@
 // Starting an end, and noting what it hears: time passes tick by tick, and then the sign follows.
-ghost use Rattle.std.specs.Prelude.{◌≡◌, ◌≤◌};
+ghost use Rattle.std.specs.Prelude.{◌≡◌, ◌≤◌, min};
 ghost use Rattle.code.specs.Refusals.{numbered};
 ghost use Rattle.bringup.specs.Bringup.{entered, opened, awaited, awaited_fall, closed_window, settled, tick, ticks, signed, sign_numbered, unused, start_refusal, note_refusal, starting, noting};
-ghost use Rattle.bringup.specs.Skipping.{skipped, timer, has_run_out, OnlyRests, NothingDue};
+ghost use Rattle.bringup.specs.Skipping.{skipped, timer, has_run_out, detector_calm, phase_calm, OnlyRests, NothingDue};
 
 use crate::detector::{Detector, count_up};
 use crate::end::{End, MOST_TICKS, Phase, Sign, Standing, Window};
@@ -290,6 +290,7 @@ impl End {
 
     // For how many ticks, at most so many, nothing comes due.
     fn calm(&self, most: u32) -> u32
+        ensures longest { result ≡ min most (min (detector_calm self.now.detector) (phase_calm self.now.phase self.now)) }
         ensures bounded { result ≤ most }
         ensures detector { OnlyRests result self.now.detector }
         ensures phase { NothingDue result self.now }
@@ -298,7 +299,8 @@ impl End {
     }
 
     fn calm_in_phase(&self) -> u32
-        ensures { NothingDue result self.now }
+        ensures longest { result ≡ phase_calm self.now.phase self.now }
+        ensures calm { NothingDue result self.now }
     {
         match self.phase {
             Phase::Awaiting if self.detector.has_detected() => 0,
