@@ -1,5 +1,5 @@
 -- The search for a fault, step by step: what is found from here on decides what is found in all.
-use Rattle.std.proofs.Common.{◌≡◌, ℕ, ◌+◌, ◌<◌, ◌≤◌, Bool, true, false, cond, not, ◌==◌, List, [], length, get_or, drop, Some, None, Option, sym, ap, ◌∙◌, arith}
+use Rattle.std.proofs.Common.{◌≡◌, ℕ, ◌+◌, ◌<◌, ◌≤◌, Bool, true, false, cond, not, ◌||◌, ◌==◌, List, [], length, get_or, drop, Some, None, Option, sym, ap, ◌∙◌, arith}
 use Rattle.std.specs.Bool.{MatchBool, then_some}
 use Rattle.std.specs.List.{range_with_len, AllWithin, HoldsAt}
 use Rattle.std.proofs.lemmas.List.{length-drop, get_or-drop, get_or_default, at_drop_more, at_drop_all}
@@ -28,6 +28,14 @@ any_from bits p n e false none =
     let within : k < n = omega (arith, length-drop p bits) in
     let bit = get_or_default (drop p bits) k d 0 h ∙ (get_or-drop p bits k 0 ∙ ap (λ i. get_or bits i 0) (sym (get_or-range_with_len p n k 0 within))) in
     ap not (eq-eqb (get_or (drop p bits) k d) 0 (bit ∙ none k 0 (omega arith) (omega (arith, length-range_with_len p n)))))
+
+-- Where the bit at a place is not set, one is set from there on if one is from the next place on.
+pub set_later : (bits : List ℕ) (p : ℕ) → p < length bits → get_or bits p 0 ≡ 0 → any_set (drop (p + 1) bits) ≡ any_set (drop p bits)
+set_later bits p h bit =
+    sym (at_drop_more any_set bits p 0 h ∙ ap (λ b. not b || any_set (drop (p + 1) bits)) (eq-eqb (get_or bits p 0) 0 bit))
+
+pub none_set : (bits : List ℕ) (p : ℕ) → length bits ≤ p → any_set (drop p bits) ≡ false
+none_set bits p h = at_drop_all any_set bits p h
 
 -- A record that does not count too many bits is judged by the bits beyond its count.
 judged_by : (block : List ℕ) (b : Bool) → get_or block 0 0 ≤ 120 → any_set (drop (get_or block 0 0) (bit_places block)) ≡ b

@@ -1,5 +1,5 @@
 // Recordings: bits kept in records of 16 bytes, of which the first counts the bits that the others hold.
-ghost use Rattle.std.specs.Prelude.{◌≡◌, ◌≤◌, [], length, slice_index_or};
+ghost use Rattle.std.specs.Prelude.{◌≡◌, ◌≤◌, [], length, drop, slice_index_or};
 ghost use Rattle.line.specs.Records.{records, held_bits};
 
 use crate::record::{bit_at, first_fault, held, records};
@@ -70,6 +70,14 @@ impl<'a> Recording<'a> {
         }
     }
 
+    // The records from the one that it has come to on.
+    fn records_left(&self) -> &[[u8; 16]]
+        ensures { result.now ≡ drop self.now.place.index (records self.now.bytes.now) }
+    {
+        let records = records(self.bytes);
+        &records[self.place.index.min(records.len())..]
+    }
+
     // How many bits are gone from a record, which is the one that it has come to or a later one.
     fn gone_from(&self, index: usize) -> usize
         ensures { result ≡ gone_from self.now.place index }
@@ -110,7 +118,7 @@ impl Tap for Recording<'_> {
     }
 
     fn count(&self) -> usize {
-        let left = records(self.bytes).iter().skip(self.place.index);
+        let left = self.records_left().iter();
         left.map(held).sum::<usize>() - self.place.gone
     }
 
