@@ -103,8 +103,11 @@ fn after_character(character: u16, disparity: u8) -> u8 {
 
 // The code that has the character in the column.
 fn find_row(rows: &[Row], character: u16, disparity: u8) -> Option<&Row> {
-    rows.iter()
-        .find(|row| row.character(disparity) == character)
+    if disparity == 0 {
+        rows.iter().find(|row| row.minus == character)
+    } else {
+        rows.iter().find(|row| row.plus == character)
+    }
 }
 
 // Whether the number is decoded as the table says: read as its code, or refused where it has none.

@@ -1,5 +1,5 @@
 -- The tables of halves: what a half is in its column, and the disparity that it sets or keeps.
-use Rattle.std.proofs.Common.{◌≡◌, ℕ, ◌-◌, ◌*◌, ◌^◌, ◌<◌, Bool, true, false, cond, ◌&&◌, ◌||◌, T, eqb, ltb, List, Some, None, Option, unwrap_or, length, get_or, refl, ap, ◌∙◌, eqb→eq, lit<, ltb→lt}
+use Rattle.std.proofs.Common.{◌≡◌, ℕ, ◌+◌, ◌-◌, ◌*◌, ◌/◌, ◌%◌, ◌^◌, ◌<◌, Bool, true, false, cond, ◌&&◌, ◌||◌, T, eqb, ltb, List, Some, None, Option, unwrap_or, length, get_or, refl, ap, ap₂, ◌∙◌, arith, eqb→eq, lit<, ltb→lt}
 use Rattle.code.specs.declared.tables.TheConstants.{SIXES, FOURS, ALTERNATE_SEVEN, SET_BY_SIX, SET_BY_FOUR}
 use Rattle.code.specs.declared.tables.Half.{Half}
 use Rattle.code.specs.Halves.{half_at, half_then, IsHalf}
@@ -7,7 +7,7 @@ use Rattle.code.specs.declared.character.numbers.Disparity.{Disparity}
 use Rattle.code.specs.declared.character.numbers.Disparity.TheVariants.{Minus, Plus}
 use Rattle.code.specs.Disparities.{disparity_number}
 use Rattle.code.specs.Characters.{after, after_half, ones_of, ones_first, ones_last, six_of, four_of, used_after, special_character}
-use Rattle.code.proofs.Computed.{both_left, both_right, passed, entry}
+use Rattle.code.proofs.Computed.{both_left, both_right, passed, entry, at_both}
 
 pub disparity_small : (d : Disparity) → disparity_number d < 2
 disparity_small Minus = lit< tt
@@ -96,6 +96,21 @@ pub set_by_four : (half : ℕ) (d : Disparity) → half < 16
     → disparity_number (unwrap_or (get_or SET_BY_FOUR half None) d) ≡ after_half 4 half (disparity_number d)
 unfolding is_set setting_number after_half
 set_by_four half d h = set_by 4 half (get_or SET_BY_FOUR half None) d (entry (is_set 4) SET_BY_FOUR None tt half h)
+
+-- after the six-bit half of a byte, received and encoded disparity agree
+pub six_agrees : (low d : ℕ) → low < 32 → d < 2 → after_half 6 (six_of low d) d ≡ used_after 6 (six_of low d) d
+unfolding after_half six_of used_after
+six_agrees low d hl hd =
+    eqb→eq (after_half 6 (six_of low d) d) (used_after 6 (six_of low d) d)
+    (at_both 32 (λ (l e : ℕ). eqb (after_half 6 (six_of l e) e) (used_after 6 (six_of l e) e)) tt tt low d hl hd)
+
+-- the disparity after two halves, from the number that they make
+pub after_halves : (six four d : ℕ) → four < 16 → after (six * 16 + four) d ≡ after_half 4 four (after_half 6 six d)
+unfolding after
+after_halves six four d h =
+    let q : (six * 16 + four) / 16 ≡ six = omega arith in
+    let r : (six * 16 + four) % 16 ≡ four = omega arith in
+    ap₂ (λ (x y : ℕ). after_half 4 y (after_half 6 x d)) q r
 
 -- a special character leaves the other disparity
 special_after : (five : Bool) (d : Disparity) → let n = disparity_number d in

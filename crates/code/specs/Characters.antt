@@ -2,7 +2,6 @@
 -- and a character is a number below 1024 whose highest bit is the first one sent.
 use Rattle.std.specs.Prelude.{◌≡◌, ℕ, zero, suc, ◌+◌, ◌-◌, ◌*◌, ◌/◌, ◌%◌, ◌^◌, ◌<◌, Bool, cond, not, ◌&&◌, ◌||◌, T, List, [], ◌∷◌, Some, None, Option, ◌==◌, nat_lt, slice_index}
 use Rattle.code.specs.declared.character.Code.{Code}
-use Rattle.code.specs.declared.character.numbers.Kind.{Kind}
 use Rattle.code.specs.Kinds.{kind_number, code_with}
 
 -- The six-bit halves at minus, by the low five bits of the byte.
@@ -106,10 +105,6 @@ special byte = byte == 0x7C || byte == 0xBC
 -- The valid codes: every data byte, K28.3 and K28.5.
 abbrev pub valid : ℕ → ℕ → Bool
 valid kind byte = cond (kind == 0) (nat_lt byte 256) (kind == 1 && special byte)
-
--- The code of a kind and a byte, if it is valid.
-abbrev pub valid_code : Kind → ℕ → Option Code
-valid_code kind byte = cond (valid (kind_number kind) byte) (Some (record { kind = kind; byte = byte })) None
 
 -- Whichever column a character is read in, no other code than this one has it.
 abbrev pub OnlyCode : ℕ → Code → Type 0

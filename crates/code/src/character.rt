@@ -3,7 +3,7 @@ ghost use Rattle.std.specs.Prelude.{◌≡◌, ◌<◌};
 ghost use Rattle.code.specs.Kinds.{kind_number};
 ghost use Rattle.code.specs.Disparities.{disparity_number};
 ghost use Rattle.code.specs.Halves.{IsHalf};
-ghost use Rattle.code.specs.Characters.{is_alternate, four_after, valid, valid_code, unlike};
+ghost use Rattle.code.specs.Characters.{is_alternate, four_after, valid, unlike};
 ghost use Rattle.code.specs.Encodings.{data_sent, special_sent, sent_as};
 
 use crate::tables::{ALTERNATE_SEVEN, FOURS, Half, SIXES};
@@ -92,14 +92,6 @@ fn special_character(byte: u8, disparity: Disparity) -> Encoded
 }
 
 impl Code {
-    // The code of a kind and a byte, if it is a valid one.
-    fn new(kind: Kind, byte: u8) -> Option<Code>
-        ensures { result ≡ valid_code kind byte }
-    {
-        let code = Code { kind, byte };
-        code.is_valid().then_some(code)
-    }
-
     // Every data byte is valid, and K28.3 and K28.5.
     fn is_valid(self) -> bool
         ensures { result ≡ valid (kind_number self.kind) self.byte }

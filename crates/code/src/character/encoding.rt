@@ -44,12 +44,17 @@ impl From<UnknownDisparity> for EncodeRefusal {
 }
 
 // The character of a code at a disparity, and the disparity after it.
-// Kept: kind and disparity are numbers, since those above 1 are refused by number, and C calls this.
+// Kept: kind and disparity are numbers, since those above 1 are refused by number, and C calls this. The code is tested here
+// and not by an `Option` of it, with which special and refused codes took longer than before.
+#[inline]
 pub fn encode(kind: u8, byte: u8, disparity: u8) -> Result<Encoded, EncodeRefusal>
     ensures { numbered encode_refusal result ≡ encoding kind byte disparity }
 {
     let kind = Kind::try_from(kind)?;
-    let code = Code::new(kind, byte).ok_or(EncodeRefusal::NotSpecial)?;
+    let code = Code { kind, byte };
+    if !code.is_valid() {
+        return Err(EncodeRefusal::NotSpecial);
+    }
     let disparity = Disparity::try_from(disparity)?;
     Ok(code.encoded(disparity))
 }
