@@ -34,6 +34,7 @@ pub set_later : (bits : List ℕ) (p : ℕ) → p < length bits → get_or bits 
 set_later bits p h bit =
     sym (at_drop_more any_set bits p 0 h ∙ ap (λ b. not b || any_set (drop (p + 1) bits)) (eq-eqb (get_or bits p 0) 0 bit))
 
+-- From the end on no bit is set.
 pub none_set : (bits : List ℕ) (p : ℕ) → length bits ≤ p → any_set (drop p bits) ≡ false
 none_set bits p h = at_drop_all any_set bits p h
 
